@@ -16,49 +16,47 @@ use Rattle.call_change.proofs.arrive.Tie as tie
 
 -- the walk is that of the line's table
 below : (c : tie.After-descend) →
-    let s = c.before.before.before in
-    end_of s.args.card.now false (way_from s.args.card.now s.args.n s.args.key depth_limit (root_position (get_or s.args.card.now (root_of s.args.line) 0)))
+    end_of c.args.card.now false (way_from c.args.card.now c.args.n c.args.key depth_limit (root_position (get_or c.args.card.now (root_of c.args.line) 0)))
     ≡ c.descend.result
 below c =
-    let s = c.before.before.before in
-    let card = s.args.card.now in
-    sym (c.descend.ensures ∙ ap (λ (r : ℕ). end_of card false (way_from card s.args.n s.args.key depth_limit (root_position r))) c.before.root-of.ensures)
+    let card = c.args.card.now in
+    sym (c.descend.ensures ∙ ap (λ (r : ℕ). end_of card false (way_from card c.args.n c.args.key depth_limit (root_position r))) c.root_of.ensures)
 
-root-of-requires : tie.Need-root-of-requires
-root-of-requires c κs = let s = c.before in (omega (arith, s.requires.0.words), s.requires.1)
+root_of-requires : tie.Need-root_of-requires
+root_of-requires c κs = (omega (arith, c.requires.0.words), c.requires.1)
 
 descend-requires : tie.Need-descend-requires
 descend-requires c κs = search rules
 
-enum_told : tie.Need-enum-told
-enum_told c = search rules
+enum_told-1 : tie.Need-enum_told-1
+enum_told-1 c = search rules
 
-enum-told-2 : tie.Need-enum-told-2
-enum-told-2 c = search rules
+enum_told-in-Fault : tie.Need-enum_told-in-Fault
+enum_told-in-Fault c = search rules
 
-enum-known-position : tie.Need-enum-known-position
-enum-known-position c = search rules
+enum_known-position : tie.Need-enum_known-position
+enum_known-position c = search rules
 
-returns : tie.Need-returns
+returns-in-Refused : tie.Need-returns-in-Refused
 unfolding Arrives
-returns c = land_refused _ _ _ _ (below c.before.before ∙ c.enum_told.given.1)
+returns-in-Refused c = land_refused _ _ _ _ (below c.before ∙ c.in-Refused.is)
 
-returns-2 : tie.Need-returns-2
-returns-2 c = absurd (unsought_fault _ _ _ (sym c.before.before.descend.ensures ∙ c.enum-told2.given.1))
+returns-in-Fault : tie.Need-returns-in-Fault
+returns-in-Fault c = absurd (unsought_fault _ _ _ (sym c.descend.ensures ∙ c.in-Fault.is))
 
-returns-3 : tie.Need-returns-3
+returns-in-Leaf : tie.Need-returns-in-Leaf
 unfolding Arrives
-returns-3 c = (_, land_leaf _ _ _ _ c.before.position.given.0.0 _ (below c.before.before.before ∙ c.before.position.given.1))
+returns-in-Leaf c = (_, land_leaf _ _ _ _ c.in-Leaf.position _ (below c.before ∙ c.in-Leaf.is))
 
 pub arrive_spec : {M : Type 1} → statement M
 arrive_spec =
     tie.close
     (tie.spec
-    root-of-requires
+    root_of-requires
     descend-requires
-    enum_told
-    enum-told-2
-    enum-known-position
-    returns
-    returns-2
-    returns-3)
+    enum_told-1
+    enum_told-in-Fault
+    enum_known-position
+    returns-in-Refused
+    returns-in-Fault
+    returns-in-Leaf)

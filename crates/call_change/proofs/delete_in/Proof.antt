@@ -8,53 +8,50 @@ use borrow.Author.Rules.{rules}
 use Rattle.call_change.proofs.delete_in.Statement.{statement}
 use Rattle.call_change.proofs.delete_in.Tie as tie
 
-few : (c : tie.After-slot) → c.slot.given.0.0 < 11
+few : (c : tie.In-At) → c.in-At.slot < 11
 few c =
-    let s = c.before.before.before.before in
-    slot_below s.args.leaf.now s.args.key c.slot.given.0.0 (search rules)
-    (sym c.before.before.find-slot.ensures ∙ c.slot.given.1)
+    slot_below c.args.leaf.now c.args.key c.in-At.slot (search rules)
+    (sym c.find_slot.ensures ∙ c.in-At.is)
 
-find-slot-requires : tie.Need-find-slot-requires
-find-slot-requires c κs = search rules
+find_slot-requires : tie.Need-find_slot-requires
+find_slot-requires c κs = search rules
 
-enum-known-slot : tie.Need-enum-known-slot
-enum-known-slot c = search rules
+enum_known-slot : tie.Need-enum_known-slot
+enum_known-slot c = search rules
 
-add-value : tie.Need-overflow-add-value
-add-value c = omega (arith, few c.before)
+overflow_add-value : tie.Need-overflow_add-value
+overflow_add-value c = omega (arith, few c)
 
-mul-value : tie.Need-overflow-mul-value
-mul-value c = omega (arith, few c.before)
+offset_bounds-leaf-slot : tie.Need-offset_bounds-leaf-slot
+offset_bounds-leaf-slot c = omega (arith, few c)
 
-shared-slice-read-value : tie.Need-shared-slice-read-value
-shared-slice-read-value c = omega (arith, few c.before.before)
+bounds-leaf-slot : tie.Need-bounds-leaf-slot
+bounds-leaf-slot c = omega (arith, few c.before)
 
-enum_told : tie.Need-enum-told
-enum_told c = search rules
+enum_told-1 : tie.Need-enum_told-1
+enum_told-1 c = search rules
 
-returns : tie.Need-returns
+returns-in-At : tie.Need-returns-in-At
 unfolding delete_decided
-returns c =
-    let s = c.before.before.before.before.before.before in
-    ap (delete_decided s.args.key s.args.node s.args.leaf.now)
-    (sym (sym c.before.before.before.before.find-slot.ensures ∙ c.before.before.slot.given.1))
+returns-in-At c =
+    ap (delete_decided c.args.key c.args.node c.args.leaf.now)
+    (sym (sym c.find_slot.ensures ∙ c.in-At.is))
 
-returns-2 : tie.Need-returns-2
+returns-in-Absent : tie.Need-returns-in-Absent
 unfolding delete_decided
-returns-2 c =
-    let s = c.before.before.before.before in
-    ap (delete_decided s.args.key s.args.node s.args.leaf.now)
-    (sym (sym c.before.before.find-slot.ensures ∙ c.enum_told.given.1))
+returns-in-Absent c =
+    ap (delete_decided c.args.key c.args.node c.args.leaf.now)
+    (sym (sym c.find_slot.ensures ∙ c.in-Absent.is))
 
 pub delete_in_spec : {M : Type 1} → statement M
 delete_in_spec =
     tie.close
     (tie.spec
-    find-slot-requires
-    enum-known-slot
-    add-value
-    mul-value
-    shared-slice-read-value
-    enum_told
-    returns
-    returns-2)
+    find_slot-requires
+    enum_known-slot
+    overflow_add-value
+    offset_bounds-leaf-slot
+    bounds-leaf-slot
+    enum_told-1
+    returns-in-At
+    returns-in-Absent)

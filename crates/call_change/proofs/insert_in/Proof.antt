@@ -15,56 +15,54 @@ use borrow.Author.Rules.{rules}
 use Rattle.call_change.proofs.insert_in.Statement.{statement}
 use Rattle.call_change.proofs.insert_in.Tie as tie
 
-few : (c : tie.After-i) → c.i.given.0.0 < 11
-few c = let s = c.before.before.before.before in slot_below s.args.leaf.now s.args.key c.i.given.0.0 (search rules) (sym c.before.before.find-slot.ensures ∙ c.i.given.1)
+few : (c : tie.In-At) → c.in-At.i < 11
+few c = slot_below c.args.leaf.now c.args.key c.in-At.i (search rules) (sym c.find_slot.ensures ∙ c.in-At.is)
 
-find-slot-requires : tie.Need-find-slot-requires
-find-slot-requires c κs = search rules
+find_slot-requires : tie.Need-find_slot-requires
+find_slot-requires c κs = search rules
 
-enum-known-i : tie.Need-enum-known-i
-enum-known-i c = search rules
+enum_known-i : tie.Need-enum_known-i
+enum_known-i c = search rules
 
-add-t11 : tie.Need-overflow-add-t11
-add-t11 c = omega (arith, few c.before)
+overflow_add-result : tie.Need-overflow_add-result
+overflow_add-result c = omega (arith, few c)
 
-mul-t12 : tie.Need-overflow-mul-t12
-mul-t12 c = omega (arith, few c.before)
+offset_bounds-leaf-i : tie.Need-offset_bounds-leaf-i
+offset_bounds-leaf-i c = omega (arith, few c)
 
-shared-slice-read-t14 : tie.Need-shared-slice-read-t14
-shared-slice-read-t14 c = omega (arith, few c.before.before)
+bounds-leaf-i : tie.Need-bounds-leaf-i
+bounds-leaf-i c = omega (arith, few c.before)
 
-enum_told : tie.Need-enum-told
-enum_told c = search rules
+enum_told-1 : tie.Need-enum_told-1
+enum_told-1 c = search rules
 
-place-new-requires : tie.Need-place-new-requires
-place-new-requires c κs = search rules
+place_new-requires : tie.Need-place_new-requires
+place_new-requires c κs = search rules
 
-returns : tie.Need-returns
+returns-in-At : tie.Need-returns-in-At
 unfolding insert_reason reason_in insert_answer placed
-returns c =
-    let s = c.before.before.before.before.before.before in
-    ap (λ (t : Slot). insert_decided s.args.key s.args.value s.args.node s.args.link (reason_in s.args.leaf.now t))
-    (sym (sym c.before.before.before.before.find-slot.ensures ∙ c.before.before.i.given.1))
+returns-in-At c =
+    ap (λ (t : Slot). insert_decided c.args.key c.args.value c.args.node c.args.link (reason_in c.args.leaf.now t))
+    (sym (sym c.find_slot.ensures ∙ c.in-At.is))
 
-returns-2 : tie.Need-returns-2
+returns-in-Absent : tie.Need-returns-in-Absent
 unfolding insert_reason reason_in
-returns-2 c =
-    let s = c.before.before.before.before.before in
-    ap (λ (d : Decision). record { doing = Inserting s.args.key s.args.value InHand; answer = Absent; decision = d }) c.place-new.ensures
-    ∙ answer_empty s.args.leaf.now s.args.key s.args.value s.args.node s.args.link
-    ∙ ap (λ (t : Slot). insert_decided s.args.key s.args.value s.args.node s.args.link (reason_in s.args.leaf.now t))
-    (sym (sym c.before.before.before.find-slot.ensures ∙ c.before.enum_told.given.1))
+returns-in-Absent c =
+    ap (λ (d : Decision). record { doing = Inserting c.args.key c.args.value InHand; answer = Absent; decision = d }) c.place_new.ensures
+    ∙ answer_empty c.args.leaf.now c.args.key c.args.value c.args.node c.args.link
+    ∙ ap (λ (t : Slot). insert_decided c.args.key c.args.value c.args.node c.args.link (reason_in c.args.leaf.now t))
+    (sym (sym c.find_slot.ensures ∙ c.in-Absent.is))
 
 pub insert_in_spec : {M : Type 1} → statement M
 insert_in_spec =
     tie.close
     (tie.spec
-    find-slot-requires
-    enum-known-i
-    add-t11
-    mul-t12
-    shared-slice-read-t14
-    enum_told
-    place-new-requires
-    returns
-    returns-2)
+    find_slot-requires
+    enum_known-i
+    overflow_add-result
+    offset_bounds-leaf-i
+    bounds-leaf-i
+    enum_told-1
+    place_new-requires
+    returns-in-At
+    returns-in-Absent)

@@ -7,53 +7,50 @@ use borrow.Author.Rules.{rules}
 use Rattle.call_change.proofs.next_change.Statement.{statement}
 use Rattle.call_change.proofs.next_change.Tie as tie
 
-enum-known-task : tie.Need-enum-known-task
-enum-known-task c = search rules
+enum_known-task : tie.Need-enum_known-task
+enum_known-task c = search rules
 
-put-in-requires : tie.Need-put-in-requires
-put-in-requires c κs = search rules
+put_in-requires : tie.Need-put_in-requires
+put_in-requires c κs = search rules
 
-enum-known-task-2 : tie.Need-enum-known-task-2
-enum-known-task-2 c = search rules
+enum_known-task-in-TakeOut-1 : tie.Need-enum_known-task-in-TakeOut-1
+enum_known-task-in-TakeOut-1 c = search rules
 
-take-out-requires : tie.Need-take-out-requires
-take-out-requires c κs = search rules
+take_out-requires : tie.Need-take_out-requires
+take_out-requires c κs = search rules
 
-enum-known-task-3 : tie.Need-enum-known-task-3
-enum-known-task-3 c = search rules
+enum_known-task-in-Repair-1 : tie.Need-enum_known-task-in-Repair-1
+enum_known-task-in-Repair-1 c = search rules
 
-next-repair-requires : tie.Need-next-repair-requires
-next-repair-requires c κs = let s = c.before.before.before.before in (s.requires.0.words, s.requires.0.most, s.requires.1)
+next_repair-requires : tie.Need-next_repair-requires
+next_repair-requires c κs = (c.requires.0.words, c.requires.0.most, c.requires.1)
 
-returns : tie.Need-returns
-returns c =
-    let s = c.before.before.before.before.before in
+returns-in-PutIn : tie.Need-returns-in-PutIn
+returns-in-PutIn c =
     c.put_in.ensures
-    ∙ sym (ap (decided (seen s.args.line s.args.card.now) s.args.n s.args.doing) c.before.before.task.given.1)
+    ∙ sym (ap (decided (seen c.args.line c.args.card.now) c.args.n c.args.doing) c.in-PutIn.is)
 
-returns-2 : tie.Need-returns-2
-returns-2 c =
-    let s = c.before.before.before.before.before in
+returns-in-TakeOut : tie.Need-returns-in-TakeOut
+returns-in-TakeOut c =
     c.take_out.ensures
-    ∙ sym (ap (decided (seen s.args.line s.args.card.now) s.args.n s.args.doing) c.before.before.task2.given.1)
+    ∙ sym (ap (decided (seen c.args.line c.args.card.now) c.args.n c.args.doing) c.in-TakeOut.is)
 
-returns-3 : tie.Need-returns-3
+returns-in-Repair : tie.Need-returns-in-Repair
 unfolding decided
-returns-3 c =
-    let s = c.before.before.before.before.before in
-    ap (λ (d : Decision). record { doing = s.args.doing; answer = c.before.before.task3.given.0.1.0; decision = d }) c.next-repair.ensures
-    ∙ sym (ap (decided (seen s.args.line s.args.card.now) s.args.n s.args.doing) c.before.before.task3.given.1)
+returns-in-Repair c =
+    ap (λ (d : Decision). record { doing = c.args.doing; answer = c.in-Repair.answer; decision = d }) c.next_repair.ensures
+    ∙ sym (ap (decided (seen c.args.line c.args.card.now) c.args.n c.args.doing) c.in-Repair.is)
 
 pub next_change_spec : {M : Type 1} → statement M
 next_change_spec =
     tie.close
     (tie.spec
-    enum-known-task
-    put-in-requires
-    enum-known-task-2
-    take-out-requires
-    enum-known-task-3
-    next-repair-requires
-    returns
-    returns-2
-    returns-3)
+    enum_known-task
+    put_in-requires
+    enum_known-task-in-TakeOut-1
+    take_out-requires
+    enum_known-task-in-Repair-1
+    next_repair-requires
+    returns-in-PutIn
+    returns-in-TakeOut
+    returns-in-Repair)

@@ -7,33 +7,31 @@ use borrow.Author.Rules.{rules}
 use Rattle.call_change.proofs.place_new.Statement.{statement}
 use Rattle.call_change.proofs.place_new.Tie as tie
 
-find-slot-requires : tie.Need-find-slot-requires
-find-slot-requires c κs = search rules
+find_slot-requires : tie.Need-find_slot-requires
+find_slot-requires c κs = search rules
 
-enum-known-slot : tie.Need-enum-known-slot
-enum-known-slot c = search rules
+enum_known-slot : tie.Need-enum_known-slot
+enum_known-slot c = search rules
 
-enum_told : tie.Need-enum-told
-enum_told c = search rules
+enum_told-1 : tie.Need-enum_told-1
+enum_told-1 c = search rules
 
-returns : tie.Need-returns
+returns-in-At : tie.Need-returns-in-At
 unfolding placed empty_reason
-returns c =
-    let s = c.before.before.before.before.before in
-    ap (λ (t : Slot). placed s.args.key s.args.value s.args.node s.args.link (empty_reason t)) (sym (sym c.before.before.before.find-slot.ensures ∙ c.before.slot.given.1))
+returns-in-At c =
+    ap (λ (t : Slot). placed c.args.key c.args.value c.args.node c.args.link (empty_reason t)) (sym (sym c.find_slot.ensures ∙ c.in-At.is))
 
-returns-2 : tie.Need-returns-2
+returns-in-Absent : tie.Need-returns-in-Absent
 unfolding placed empty_reason
-returns-2 c =
-    let s = c.before.before.before.before in
-    ap (λ (t : Slot). placed s.args.key s.args.value s.args.node s.args.link (empty_reason t)) (sym (sym c.before.before.find-slot.ensures ∙ c.enum_told.given.1))
+returns-in-Absent c =
+    ap (λ (t : Slot). placed c.args.key c.args.value c.args.node c.args.link (empty_reason t)) (sym (sym c.find_slot.ensures ∙ c.in-Absent.is))
 
 pub place_new_spec : {M : Type 1} → statement M
 place_new_spec =
     tie.close
     (tie.spec
-    find-slot-requires
-    enum-known-slot
-    enum_told
-    returns
-    returns-2)
+    find_slot-requires
+    enum_known-slot
+    enum_told-1
+    returns-in-At
+    returns-in-Absent)

@@ -11,49 +11,44 @@ use Rattle.call_change.proofs.put_in.Tie as tie
 arrive-requires : tie.Need-arrive-requires
 arrive-requires c κs = search rules
 
-enum_told : tie.Need-enum-told
-enum_told c = search rules
+enum_told-1 : tie.Need-enum_told-1
+enum_told-1 c = search rules
 
-enum-known-node : tie.Need-enum-known-node
-enum-known-node c = search rules
+enum_known-node : tie.Need-enum_known-node
+enum_known-node c = search rules
 
-node-at-requires : tie.Need-node-at-requires
-node-at-requires c κs =
-    let s = c.before.before.before.before.before in
-    leaf_there greatest_nodes s.args.line s.args.card.now s.args.n s.args.key _ c.before.before.before.arrive.ensures _ _ c.before.node.given.1 s.requires.0
+node_at-requires : tie.Need-node_at-requires
+node_at-requires c κs =
+    leaf_there greatest_nodes c.args.line c.args.card.now c.args.n c.args.key _ c.arrive.ensures _ _ c.in-Leaf.is c.requires.0
 
-insert-in-requires : tie.Need-insert-in-requires
-insert-in-requires c κs =
-    let s = c.before.before.before.before.before.before in
-    ap length c.Node-at.ensures
-    ∙ leaf_words greatest_nodes s.args.line s.args.card.now s.args.n s.args.key _
-    c.before.before.before.before.arrive.ensures _ _ c.before.before.node.given.1 s.requires.0
+insert_in-requires : tie.Need-insert_in-requires
+insert_in-requires c κs =
+    ap length c.node_at.ensures
+    ∙ leaf_words greatest_nodes c.args.line c.args.card.now c.args.n c.args.key _
+    c.arrive.ensures _ _ c.in-Leaf.is c.requires.0
 
-returns : tie.Need-returns
+returns-in-Refused : tie.Need-returns-in-Refused
 unfolding decided
-returns c =
-    let s = c.before.before.before.before in
-    decided_nowhere greatest_nodes s.args.line s.args.card.now s.args.n s.args.key _ c.before.before.arrive.ensures s.args.doing
-    (insert_at s.args.key s.args.value) c.enum_told.given.1
+returns-in-Refused c =
+    decided_nowhere greatest_nodes c.args.line c.args.card.now c.args.n c.args.key _ c.arrive.ensures c.args.doing
+    (insert_at c.args.key c.args.value) c.in-Refused.is
 
-returns-2 : tie.Need-returns-2
+returns-in-Leaf : tie.Need-returns-in-Leaf
 unfolding decided
-returns-2 c =
-    let s = c.before.before.before.before.before.before.before in
-    let leaf = c.before.before.before.node.given in
-    c.insert-in.ensures
-    ∙ ap (insert_at s.args.key s.args.value leaf.0.0 leaf.0.1.0) c.before.Node-at.ensures
-    ∙ decided_there greatest_nodes s.args.line s.args.card.now s.args.n s.args.key _ c.before.before.before.before.before.arrive.ensures _ _ leaf.1
-    s.args.doing (insert_at s.args.key s.args.value)
+returns-in-Leaf c =
+    c.insert_in.ensures
+    ∙ ap (insert_at c.args.key c.args.value c.in-Leaf.node c.in-Leaf.link) c.node_at.ensures
+    ∙ decided_there greatest_nodes c.args.line c.args.card.now c.args.n c.args.key _ c.arrive.ensures _ _ c.in-Leaf.is
+    c.args.doing (insert_at c.args.key c.args.value)
 
 pub put_in_spec : {M : Type 1} → statement M
 put_in_spec =
     tie.close
     (tie.spec
     arrive-requires
-    enum_told
-    enum-known-node
-    node-at-requires
-    insert-in-requires
-    returns
-    returns-2)
+    enum_told-1
+    enum_known-node
+    node_at-requires
+    insert_in-requires
+    returns-in-Refused
+    returns-in-Leaf)

@@ -11,91 +11,91 @@ use borrow.Author.Rules.{rules}
 use Rattle.call_repair.proofs.repair.Statement.{statement}
 use Rattle.call_repair.proofs.repair.Tie as tie
 
-abbrev invariant-loop : tie.invariant-loop
-invariant-loop card₀ state₀ greatest left₀ card state left =
+abbrev invariant-loop-left : tie.invariant-loop-left
+invariant-loop-left card₀ state₀ greatest left₀ card state left =
     (repaired_card greatest repair_steps card₀ (memory_in state₀) ≡ repaired_card greatest left card (memory_in state))
     × (length card ≡ length card₀) × (length state ≡ state_words)
 
-abbrev decreases-loop : tie.decreases-loop
-decreases-loop card₀ state₀ greatest left₀ card state left = left
+abbrev decreases-loop-left : tie.decreases-loop-left
+decreases-loop-left card₀ state₀ greatest left₀ card state left = left
 
-mul_left : tie.Need-overflow-mul-left invariant-loop decreases-loop
-mul_left c = search rules
+overflow_mul-left : tie.Need-overflow_mul-left invariant-loop-left decreases-loop-left
+overflow_mul-left c = search rules
 
-add_left : tie.Need-overflow-add-left invariant-loop decreases-loop
-add_left c = search rules
+overflow_add-left : tie.Need-overflow_add-left invariant-loop-left decreases-loop-left
+overflow_add-left c = search rules
 
-loop-holds : tie.Need-loop-init invariant-loop decreases-loop
-loop-holds c = (refl, refl, c.before.before.requires)
+loop-left-init : tie.Need-loop-left-init invariant-loop-left decreases-loop-left
+loop-left-init c = (refl, refl, c.requires)
 
-is-idle-requires : tie.Need-is-idle-requires invariant-loop decreases-loop
-is-idle-requires c κs = search rules
+is_idle-requires : tie.Need-is_idle-requires invariant-loop-left decreases-loop-left
+is_idle-requires c κs = search rules
 
-same_length : tie.Need-same-length invariant-loop decreases-loop
-same_length c = search rules
+shape_of-card-then-is_idle : tie.Need-shape_of-card-then-is_idle invariant-loop-left decreases-loop-left
+shape_of-card-then-is_idle c = search rules
 
-same-length-2 : tie.Need-same-length-2 invariant-loop decreases-loop
-same-length-2 c = search rules
+shape_of-state-then-is_idle : tie.Need-shape_of-state-then-is_idle invariant-loop-left decreases-loop-left
+shape_of-state-then-is_idle c = search rules
 
-returns : tie.Need-returns invariant-loop decreases-loop
+returns-then-is_idle : tie.Need-returns-then-is_idle invariant-loop-left decreases-loop-left
 unfolding left_by
-returns c =
-    sym (c.before.before.before.before.loop.invariant.0 ∙ repair_idle _ c.before.before.before.before.loop.left
-    c.before.before.before.before.loop.card (memory_in c.before.before.before.before.loop.state)
-    (sym (c.before.is-idle.ensures.0 c.before.before.before.before.loop.invariant.2) ∙ c.if1.true))
+returns-then-is_idle c =
+    sym (c.loop-left.invariant.0 ∙ repair_idle _ c.loop-left.left
+    c.loop-left.card (memory_in c.loop-left.state)
+    (sym (c.is_idle.ensures.0 c.loop-left.invariant.2) ∙ c.if-is_idle.true))
 
-step-requires : tie.Need-step-requires invariant-loop decreases-loop
+step-requires : tie.Need-step-requires invariant-loop-left decreases-loop-left
 step-requires c κs = search rules
 
-sub-left : tie.Need-overflow-sub-left invariant-loop decreases-loop
-sub-left c = search rules
+overflow_sub-left : tie.Need-overflow_sub-left invariant-loop-left decreases-loop-left
+overflow_sub-left c = search rules
 
-loop-less : tie.Need-loop-smaller invariant-loop decreases-loop
-loop-less c = search rules
+loop-left-smaller : tie.Need-loop-left-smaller invariant-loop-left decreases-loop-left
+loop-left-smaller c = search rules
 
-loop-again : tie.Need-loop-preserved invariant-loop decreases-loop
-loop-again c =
-    let long = c.before.before.before.before.before.before.before.before.before.before.before.loop.invariant.2 in (
-      c.before.before.before.before.before.before.before.before.before.before.before.loop.invariant.0
-          ∙ repair_on _ c.before.before.before.before.before.before.before.before.before.before.before.loop.left
-          c.before.before.before.before.before.before.before.before.before.before.before.loop.card
-          (memory_in c.before.before.before.before.before.before.before.before.before.before.before.loop.state) (omega arith)
-          (sym (c.before.before.before.before.before.before.before.before.is-idle.ensures.0 long)
-          ∙ c.before.before.before.before.before.before.before.if1.false)
-          ∙ ap₂ (repaired_card _ (c.before.before.before.before.before.before.before.before.before.before.before.loop.left - 1))
-          (sym (c.before.before.before.before.step.ensures.made long).stored)
-          (sym (c.before.before.before.before.step.ensures.made long).handed),
-      c.before.before.before.before.step.auto.0 ∙ c.before.before.before.before.before.before.before.before.before.before.before.loop.invariant.1,
-      c.before.before.before.before.step.auto.1.0 ∙ long,
+loop-left-preserved : tie.Need-loop-left-preserved invariant-loop-left decreases-loop-left
+loop-left-preserved c =
+    let long = c.loop-left.invariant.2 in (
+      c.loop-left.invariant.0
+          ∙ repair_on _ c.loop-left.left
+          c.loop-left.card
+          (memory_in c.loop-left.state) (omega arith)
+          (sym (c.is_idle.ensures.0 long)
+          ∙ c.if-is_idle.false)
+          ∙ ap₂ (repaired_card _ (c.loop-left.left - 1))
+          (sym (c.step.ensures.made long).stored)
+          (sym (c.step.ensures.made long).handed),
+      c.step.auto.card ∙ c.loop-left.invariant.1,
+      c.step.auto.state ∙ long,
     )
 
-same-length-3 : tie.Need-same-length-3 invariant-loop decreases-loop
-same-length-3 c = search rules
+shape_of-card : tie.Need-shape_of-card invariant-loop-left decreases-loop-left
+shape_of-card c = search rules
 
-same-length-4 : tie.Need-same-length-4 invariant-loop decreases-loop
-same-length-4 c = search rules
+shape_of-state : tie.Need-shape_of-state invariant-loop-left decreases-loop-left
+shape_of-state c = search rules
 
-returns-2 : tie.Need-returns-2 invariant-loop decreases-loop
+returns : tie.Need-returns invariant-loop-left decreases-loop-left
 unfolding left_by
-returns-2 c = sym (c.before.loop.invariant.0 ∙ repair_over _ c.before.loop.left c.before.loop.card (memory_in c.before.loop.state) (omega arith))
+returns c = sym (c.loop-left.invariant.0 ∙ repair_over _ c.loop-left.left c.loop-left.card (memory_in c.loop-left.state) (omega arith))
 
 pub repair_spec : {M : Type 1} → statement M
 repair_spec =
     tie.close
     (tie.spec
-    invariant-loop
-    decreases-loop
-    mul_left
-    add_left
-    loop-holds
-    is-idle-requires
-    same_length
-    same-length-2
-    returns
+    invariant-loop-left
+    decreases-loop-left
+    overflow_mul-left
+    overflow_add-left
+    loop-left-init
+    is_idle-requires
+    shape_of-card-then-is_idle
+    shape_of-state-then-is_idle
+    returns-then-is_idle
     step-requires
-    sub-left
-    loop-less
-    loop-again
-    same-length-3
-    same-length-4
-    returns-2)
+    overflow_sub-left
+    loop-left-smaller
+    loop-left-preserved
+    shape_of-card
+    shape_of-state
+    returns)

@@ -10,34 +10,34 @@ use Rattle.call_start.proofs.begin.Statement.{statement}
 use Rattle.call_start.proofs.begin.Tie as tie
 use Rattle.state.specs.Block.{depth_at}
 
+returns-then-refusal-ne0 : tie.Need-returns-then-refusal-ne0
+returns-then-refusal-ne0 c = start_refused_in c.args.state.now c.requires.0 c.args.doing c.args.refusal c.args.depth c.if-refusal-ne0.true
+
+store_doing-requires : tie.Need-store_doing-requires
+store_doing-requires c κs = search rules
+
+overflow_cast-state : tie.Need-overflow_cast-state
+overflow_cast-state c = record { fits = omega (arith, c.requires.1) }
+
+bounds-state-239 : tie.Need-bounds-state-239
+bounds-state-239 c = omega (arith, c.store_doing.auto.block, c.requires.0)
+
+shape_of-state : tie.Need-shape_of-state
+shape_of-state c = search rules
+
 returns : tie.Need-returns
-returns c = let s = c.before.before in start_refused_in s.args.state.now s.requires.0 s.args.doing s.args.refusal s.args.depth c.if1.true
-
-store-doing-requires : tie.Need-store-doing-requires
-store-doing-requires c κs = search rules
-
-cast-state : tie.Need-overflow-cast-state
-cast-state c = record { fits = omega (arith, c.before.before.before.before.before.before.requires.1) }
-
-slice-write-state : tie.Need-slice-write-state
-slice-write-state c = omega (arith, c.before.before.store-doing.auto.0, c.before.before.before.before.before.before.requires.0)
-
-same_length : tie.Need-same-length
-same_length c = search rules
-
-returns-2 : tie.Need-returns-2
-returns-2 c =
-    let s = c.before.before.before.before.before.before.args in
-    started_in s.state.now c.before.before.before.before.before.before.requires.0 s.doing s.refusal s.depth _
-    c.before.before.before.before.if1.false (ap (λ (b : List ℕ). set b depth_at s.depth) c.before.before.store-doing.ensures)
+returns c =
+    let s = c.args in
+    started_in s.state.now c.requires.0 s.doing s.refusal s.depth _
+    c.if-refusal-ne0.false (ap (λ (b : List ℕ). set b depth_at s.depth) c.store_doing.ensures)
 
 pub begin_spec : {M : Type 1} → statement M
 begin_spec =
     tie.close
     (tie.spec
-    returns
-    store-doing-requires
-    cast-state
-    slice-write-state
-    same_length
-    returns-2)
+    returns-then-refusal-ne0
+    store_doing-requires
+    overflow_cast-state
+    bounds-state-239
+    shape_of-state
+    returns)

@@ -11,20 +11,20 @@ use Rattle.call_start.proofs.free_but_root.Tie as tie
 fill-requires : tie.Need-fill-requires
 fill-requires c κs = search rules
 
-take-out-requires : tie.Need-take-out-requires
-take-out-requires c κs = search rules
+take_out-requires : tie.Need-take_out-requires
+take_out-requires c κs = search rules
 
-same_length : tie.Need-same-length
-same_length c = search rules
+shape_of-free : tie.Need-shape_of-free
+shape_of-free c = search rules
 
 returns : tie.Need-returns
-returns c = c.before.before.take_out.ensures ∙ ap (λ (x : List Bool). set x formatted_root false) c.before.before.before.before.before.before.fill.ensures
+returns c = c.take_out.ensures ∙ ap (λ (x : List Bool). set x formatted_root false) c.fill.ensures
 
 pub free_but_root_spec : {M : Type 1} → statement M
 free_but_root_spec =
     tie.close
     (tie.spec
     fill-requires
-    take-out-requires
-    same_length
+    take_out-requires
+    shape_of-free
     returns)

@@ -5,22 +5,22 @@ use borrow.Author.Rules.{rules}
 use Rattle.call_start.proofs.has_word.Statement.{statement}
 use Rattle.call_start.proofs.has_word.Tie as tie
 
-find-slot-requires : tie.Need-find-slot-requires
-find-slot-requires c κs = search rules
+find_slot-requires : tie.Need-find_slot-requires
+find_slot-requires c κs = search rules
 
-enum_told : tie.Need-enum-told
-enum_told c = search rules
+enum_told-1 : tie.Need-enum_told-1
+enum_told-1 c = search rules
 
-enum-told-2 : tie.Need-enum-told-2
-enum-told-2 c = search rules
+enum_told-in-Absent : tie.Need-enum_told-in-Absent
+enum_told-in-Absent c = search rules
 
-returns : tie.Need-returns
+returns-in-At : tie.Need-returns-in-At
 unfolding is_slot
-returns c = ap is_slot (sym (sym c.before.before.find-slot.ensures ∙ c.enum_told.given.1))
+returns-in-At c = ap is_slot (sym (sym c.find_slot.ensures ∙ c.in-At.is))
 
-returns-2 : tie.Need-returns-2
+returns-in-Absent : tie.Need-returns-in-Absent
 unfolding is_slot
-returns-2 c = ap is_slot (sym (sym c.before.before.find-slot.ensures ∙ c.enum-told2.given.1))
+returns-in-Absent c = ap is_slot (sym (sym c.find_slot.ensures ∙ c.in-Absent.is))
 
 pub has_word_spec : {M : Type 1} → statement M
-has_word_spec = tie.close (tie.spec find-slot-requires enum_told enum-told-2 returns returns-2)
+has_word_spec = tie.close (tie.spec find_slot-requires enum_told-1 enum_told-in-Absent returns-in-At returns-in-Absent)

@@ -14,40 +14,38 @@ use borrow.Author.Rules.{rules}
 use Rattle.call_start.proofs.start_insert.Statement.{statement}
 use Rattle.call_start.proofs.start_insert.Tie as tie
 
-returns : tie.Need-returns
-returns c =
-    let s = c.before.before.before in
-    start_no_state s.args.state.now c.if1.true (Inserting s.args.key s.args.value NotBegun)
-    (insert_of s.args.greatest s.args.line s.args.card.now (memory_in s.args.state.now) s.args.key s.args.value)
+returns-then-state-ne-STATE_WORDS : tie.Need-returns-then-state-ne-STATE_WORDS
+returns-then-state-ne-STATE_WORDS c =
+    start_no_state c.args.state.now c.if-state-ne-STATE_WORDS.true (Inserting c.args.key c.args.value NotBegun)
+    (insert_of c.args.greatest c.args.line c.args.card.now (memory_in c.args.state.now) c.args.key c.args.value)
 
-block-due-requires : tie.Need-block-due-requires
-block-due-requires c κs = search rules
+block_due-due-requires : tie.Need-block_due-due-requires
+block_due-due-requires c κs = search rules
 
 begin-requires : tie.Need-begin-requires
 begin-requires c κs = (
-  c.before.before.before.if1.false,
-  rw c.before.block-due.ensures.1 (depth_bound _ _ _ (memory_in c.before.before.before.before.before.before.args.state.now) _),
+  c.if-state-ne-STATE_WORDS.false,
+  rw c.block_due-due.ensures.1 (depth_bound _ _ _ (memory_in c.args.state.now) _),
 )
 
-same_length : tie.Need-same-length
-same_length c = search rules
+shape_of-state : tie.Need-shape_of-state
+shape_of-state c = search rules
 
-returns-2 : tie.Need-returns-2
+returns : tie.Need-returns
 unfolding insert_of
-returns-2 c =
-    let s = c.before.before.before.before.before.before.before.before.before in
-    let doing = Inserting s.args.key s.args.value NotBegun in
-    subst (λ (due : Handed). StartCall s.args.state.now c.before.before.begin.new.0 c.before.before.begin.result doing due)
-    (ap₂ (λ (r depth : ℕ). begun_by r depth (memory_in s.args.state.now) doing) c.before.before.before.before.block-due.ensures.0 c.before.before.before.before.block-due.ensures.1
-    ∙ sym (start_due _ s.args.line s.args.card.now (memory_in s.args.state.now) s.args.key doing _))
-    c.before.before.begin.ensures
+returns c =
+    let doing = Inserting c.args.key c.args.value NotBegun in
+    subst (λ (due : Handed). StartCall c.args.state.now c.begin.new.state c.begin.result doing due)
+    (ap₂ (λ (r depth : ℕ). begun_by r depth (memory_in c.args.state.now) doing) c.block_due-due.ensures.0 c.block_due-due.ensures.1
+    ∙ sym (start_due _ c.args.line c.args.card.now (memory_in c.args.state.now) c.args.key doing _))
+    c.begin.ensures
 
 pub start_insert_spec : {M : Type 1} → statement M
 start_insert_spec =
     tie.close
     (tie.spec
-    returns
-    block-due-requires
+    returns-then-state-ne-STATE_WORDS
+    block_due-due-requires
     begin-requires
-    same_length
-    returns-2)
+    shape_of-state
+    returns)

@@ -26,111 +26,101 @@ use Rattle.call_start.proofs.way_due.Tie as tie
 
 -- the walk is that of the line's table
 below : (c : tie.After-descend) →
-    let s = c.before.before.before.before.before.before in
-    end_of s.args.card.now false (line_way s.args.line s.args.card.now (memory_in s.args.state.now).nodes s.args.key) ≡ c.descend.result
+    end_of c.args.card.now false (line_way c.args.line c.args.card.now (memory_in c.args.state.now).nodes c.args.key) ≡ c.descend.result
 unfolding memory_in
 below c =
-    let s = c.before.before.before.before.before.before in
-    let card = s.args.card.now in
+    let card = c.args.card.now in
     sym (c.descend.ensures
-    ∙ ap₂ (λ (n r : ℕ). end_of card false (way_from card n s.args.key depth_limit (root_position r))) c.before.before.wide.ensures c.before.root-of.ensures)
+    ∙ ap₂ (λ (n r : ℕ). end_of card false (way_from card n c.args.key depth_limit (root_position r))) c.wide-nodes.ensures c.root_of.ensures)
 
 -- it ended at the leaf where the update lands
-lands : (c : tie.After-position) →
-    let s = c.before.before.before.before.before.before.before.before in
-    let m = memory_in s.args.state.now in
-    landing (seen s.args.line s.args.card.now) m.nodes s.args.key
-    ≡ LandingAt c.position.given.0.0.node c.position.given.0.0.link
-    (run_over s.args.card.now 0 (line_way s.args.line s.args.card.now m.nodes s.args.key).inner)
+lands : (c : tie.In-Leaf) →
+    let m = memory_in c.args.state.now in
+    landing (seen c.args.line c.args.card.now) m.nodes c.args.key
+    ≡ LandingAt c.in-Leaf.position.node c.in-Leaf.position.link
+    (run_over c.args.card.now 0 (line_way c.args.line c.args.card.now m.nodes c.args.key).inner)
 lands c =
-    let s = c.before.before.before.before.before.before.before.before in
-    land_leaf s.args.line s.args.card.now (memory_in s.args.state.now).nodes s.args.key c.position.given.0.0 _ (below c.before.before ∙ c.position.given.1)
+    land_leaf c.args.line c.args.card.now (memory_in c.args.state.now).nodes c.args.key c.in-Leaf.position _ (below c.before ∙ c.in-Leaf.is)
 
-leaf : (c : tie.After-position) →
-    Landed (memory_in c.before.before.before.before.before.before.before.before.args.state.now).nodes c.position.given.0.0.node c.position.given.0.0.link
+leaf : (c : tie.In-Leaf) →
+    Landed (memory_in c.args.state.now).nodes c.in-Leaf.position.node c.in-Leaf.position.link
 leaf c =
-    let s = c.before.before.before.before.before.before.before.before in
-    landed greatest_nodes (seen s.args.line s.args.card.now) _ s.args.key _ _ _ (seen_sized s.args.line s.args.card.now s.requires.1) (lands c)
+    landed greatest_nodes (seen c.args.line c.args.card.now) _ c.args.key _ _ _ (seen_sized c.args.line c.args.card.now c.requires.1) (lands c)
 
-shared-slice-read-wide : tie.Need-shared-slice-read-wide
-shared-slice-read-wide c = search rules
+bounds-state-0 : tie.Need-bounds-state-0
+bounds-state-0 c = search rules
 
-wide-requires : tie.Need-wide-requires
-wide-requires c κs = search rules
+wide-nodes-requires : tie.Need-wide-nodes-requires
+wide-nodes-requires c κs = search rules
 
-root-of-requires : tie.Need-root-of-requires
-root-of-requires c κs = let s = c.before.before.before.before in (omega (arith, s.requires.1.words), s.requires.2)
+root_of-requires : tie.Need-root_of-requires
+root_of-requires c κs = (omega (arith, c.requires.1.words), c.requires.2)
 
 descend-requires : tie.Need-descend-requires
 unfolding memory_in
 descend-requires c κs =
-    let s = c.before.before.before.before.before in
-    (omega (arith, s.requires.1.words, c.before.wide.ensures), omega (arith, s.requires.1.most, c.before.wide.ensures))
+    (omega (arith, c.requires.1.words, c.wide-nodes.ensures), omega (arith, c.requires.1.most, c.wide-nodes.ensures))
 
-enum_told : tie.Need-enum-told
-enum_told c = search rules
+enum_told-1 : tie.Need-enum_told-1
+enum_told-1 c = search rules
 
-enum-told-2 : tie.Need-enum-told-2
-enum-told-2 c = search rules
+enum_told-in-Fault : tie.Need-enum_told-in-Fault
+enum_told-in-Fault c = search rules
 
-enum-known-position : tie.Need-enum-known-position
-enum-known-position c = search rules
+enum_known-position : tie.Need-enum_known-position
+enum_known-position c = search rules
 
-has-room-where-requires : tie.Need-has-room-where-requires
-has-room-where-requires c κs =
-    let s = c.before.before.before.before.before.before.before.before.before in
-    let k = leaf c.before in
-    (s.requires.0, s.requires.1, k.inside.one, k.inside.most, s.requires.2)
+has_room_where-requires : tie.Need-has_room_where-requires
+has_room_where-requires c κs =
+    let k = leaf c in
+    (c.requires.0, c.requires.1, k.inside.one, k.inside.most, c.requires.2)
 
-room-refusal-requires : tie.Need-room-refusal-requires
-room-refusal-requires c κs = search rules
+room_refusal-requires : tie.Need-room_refusal-requires
+room_refusal-requires c κs = search rules
 
-returns : tie.Need-returns
+returns-in-Refused : tie.Need-returns-in-Refused
 unfolding landing_refusal
-returns c =
-    let s = c.before.before.before.before.before.before.before.before in
-    let card = s.args.card.now in
-    let m = memory_in s.args.state.now in
-    let room = room_where s.args.splits (seen s.args.line card) s.args.key (room_of m) in
-    let ends = below c.before.before ∙ c.enum_told.given.1 in (
-      sym (ap (λ (l : Landing). landing_refusal (room l) l) (land_refused s.args.line card m.nodes s.args.key ends)),
-      sym (ap (λ (w : Way). depth_of (leaf_of w)) (way_seen s.args.line card m.nodes s.args.key) ∙ no_depth _ (unsought_refused _ _ ends)),
+returns-in-Refused c =
+    let card = c.args.card.now in
+    let m = memory_in c.args.state.now in
+    let room = room_where c.args.splits (seen c.args.line card) c.args.key (room_of m) in
+    let ends = below c.before ∙ c.in-Refused.is in (
+      sym (ap (λ (l : Landing). landing_refusal (room l) l) (land_refused c.args.line card m.nodes c.args.key ends)),
+      sym (ap (λ (w : Way). depth_of (leaf_of w)) (way_seen c.args.line card m.nodes c.args.key) ∙ no_depth _ (unsought_refused _ _ ends)),
     )
 
-returns-2 : tie.Need-returns-2
-returns-2 c = absurd (unsought_fault _ _ _ (below c.before.before ∙ c.enum-told2.given.1))
+returns-in-Fault : tie.Need-returns-in-Fault
+returns-in-Fault c = absurd (unsought_fault _ _ _ (below c.before ∙ c.in-Fault.is))
 
-returns-3 : tie.Need-returns-3
+returns-in-Leaf : tie.Need-returns-in-Leaf
 unfolding landing_refusal start_room depth_of
-returns-3 c =
-    let s = c.before.before.before.before.before.before.before.before.before.before.before in
-    let card = s.args.card.now in
-    let m = memory_in s.args.state.now in
-    let at = c.before.before.before in
-    let run = run_over card 0 (line_way s.args.line card m.nodes s.args.key).inner in
-    let room = room_where s.args.splits (seen s.args.line card) s.args.key (room_of m) in (
-      c.room-refusal.ensures
-          ∙ ap (λ (b : Bool). pick b 0 8) (c.before.has-room-where.ensures
-          ∙ ap (λ (x : List ℕ). pick s.args.splits (room_for (room_of m) run (insert_reason x s.args.key)) true) (sym (seen_node s.args.line card at.position.given.0.0.node)))
-          ∙ sym (ap (λ (l : Landing). landing_refusal (room l) l) (lands at)),
+returns-in-Leaf c =
+    let card = c.args.card.now in
+    let m = memory_in c.args.state.now in
+    let run = run_over card 0 (line_way c.args.line card m.nodes c.args.key).inner in
+    let room = room_where c.args.splits (seen c.args.line card) c.args.key (room_of m) in (
+      c.room_refusal.ensures
+          ∙ ap (λ (b : Bool). pick b 0 8) (c.has_room_where.ensures
+          ∙ ap (λ (x : List ℕ). pick c.args.splits (room_for (room_of m) run (insert_reason x c.args.key)) true) (sym (seen_node c.args.line card c.in-Leaf.position.node)))
+          ∙ sym (ap (λ (l : Landing). landing_refusal (room l) l) (lands c.before.before)),
       sym
-          (ap (λ (w : Way). depth_of (leaf_of w)) (way_seen s.args.line card m.nodes s.args.key)
-          ∙ ap depth_of (unsought_reached card _ at.position.given.0.0 _ (below at.before.before ∙ at.position.given.1))),
+          (ap (λ (w : Way). depth_of (leaf_of w)) (way_seen c.args.line card m.nodes c.args.key)
+          ∙ ap depth_of (unsought_reached card _ c.in-Leaf.position _ (below c.before.before.before ∙ c.in-Leaf.is))),
     )
 
 pub way_due_spec : {M : Type 1} → statement M
 way_due_spec =
     tie.close
     (tie.spec
-    shared-slice-read-wide
-    wide-requires
-    root-of-requires
+    bounds-state-0
+    wide-nodes-requires
+    root_of-requires
     descend-requires
-    enum_told
-    enum-told-2
-    enum-known-position
-    has-room-where-requires
-    room-refusal-requires
-    returns
-    returns-2
-    returns-3)
+    enum_told-1
+    enum_told-in-Fault
+    enum_known-position
+    has_room_where-requires
+    room_refusal-requires
+    returns-in-Refused
+    returns-in-Fault
+    returns-in-Leaf)

@@ -18,195 +18,172 @@ use borrow.Author.Rules.{rules}
 use Rattle.call_step.proofs.step.Statement.{statement}
 use Rattle.call_step.proofs.step.Tie as tie
 
-sized : (c : tie.Else2) →
-    let s = c.before.before.before.before.before.before.before in
-    Sized s.args.greatest (length s.args.card.now) (block_word s.args.state.now 0)
+sized : (c : tie.Else-not-is_sized) →
+    Sized c.args.greatest (length c.args.card.now) (block_word c.args.state.now 0)
 sized c =
-    let s = c.before.before.before.before.before.before.before in
-    let wide = c.before.before.wide in
-    subst (Sized s.args.greatest (length s.args.card.now)) wide.ensures (c.before.is-sized.ensures.0 (not-false _ c.if2.false))
+    let wide = c.wide-n in
+    subst (Sized c.args.greatest (length c.args.card.now)) wide.ensures (c.is_sized.ensures.0 (c.if-not-is_sized.false))
 
-header_right : (c : tie.Else4) →
-    let s = c.before.before.before.before.before.before.before.before.before.before.before.before in
-    header_refusal s.args.card.now (block_word s.args.state.now 0) ≡ 0
+header_right : (c : tie.Else-refusal-ne0) →
+    header_refusal c.args.card.now (block_word c.args.state.now 0) ≡ 0
 header_right c =
-    let s = c.before.before.before.before.before.before.before.before.before.before.before.before in
-    let wide = c.before.before.before.before.before.before.before.wide in
-    ap (header_refusal s.args.card.now) (sym wide.ensures) ∙ sym c.before.header-refusal.ensures ∙ c.if4.false
+    let wide = c.wide-n in
+    ap (header_refusal c.args.card.now) (sym wide.ensures) ∙ sym c.header_refusal-refusal.ensures ∙ c.if-refusal-ne0.false
 
 -- a store of the change in hand
-in_hand_lem : (c : tie.Then5) →
-    let s = c.before.before.before.before.before.before.before.before.before.before.before.before.before.before.before in
-    (more_to_store (memory_in s.args.state.now).rest ≡ true) × HoldsTask (memory_in s.args.state.now).doing
+in_hand_lem : (c : tie.Then-has_store) →
+    (more_to_store (memory_in c.args.state.now).rest ≡ true) × HoldsTask (memory_in c.args.state.now).doing
 in_hand_lem c =
-    let s = c.before.before.before.before.before.before.before.before.before.before.before.before.before.before.before in
-    let b = s.args.state.now in
-    let if3 = c.before.before.before.before.before.before.if3 in
+    let b = c.args.state.now in
+    let if3 = c.if-state-eq-FORMATTING in
     let m = memory_in b in
-    stores_held m.doing m.rest (sym c.before.has-store.ensures ∙ c.if5.true) (not_formatting b if3.false)
+    stores_held m.doing m.rest (sym c.has_store.ensures ∙ c.if-has_store.true) (not_formatting b if3.false)
 
-returns : tie.Need-returns
-returns c = let s = c.before.before.before in call_no_state _ _ s.args.card.now s.args.state.now c.if1.true
+returns-then-state-ne-STATE_WORDS : tie.Need-returns-then-state-ne-STATE_WORDS
+returns-then-state-ne-STATE_WORDS c = call_no_state _ _ c.args.card.now c.args.state.now c.if-state-ne-STATE_WORDS.true
 
-slice-read-wide : tie.Need-slice-read-wide
-slice-read-wide c = search rules
+bounds-state-0 : tie.Need-bounds-state-0
+bounds-state-0 c = search rules
 
-wide-requires : tie.Need-wide-requires
-wide-requires c κs = search rules
+wide-n-requires : tie.Need-wide-n-requires
+wide-n-requires c κs = search rules
 
-is-sized-requires : tie.Need-is-sized-requires
-is-sized-requires c κs = search rules
+is_sized-requires : tie.Need-is_sized-requires
+is_sized-requires c κs = search rules
 
-returns-2 : tie.Need-returns-2
+returns-then-not-is_sized : tie.Need-returns-then-not-is_sized
 unfolding memory_in
-returns-2 c =
-    let s = c.before.before.before.before.before.before.before in
-    let card = s.args.card.now in
-    let b = s.args.state.now in
-    let if1 = c.before.before.before.before.if1 in
-    let wide = c.before.before.wide in
+returns-then-not-is_sized c =
+    let card = c.args.card.now in
+    let b = c.args.state.now in
+    let if1 = c.if-state-ne-STATE_WORDS in
+    let wide = c.wide-n in
     call_made _ _ card b _ if1.false
     (step_unsized _ _ card (memory_in b)
-    (λ z. c.before.is-sized.ensures.1 (not-true _ c.if2.true) (subst (Sized s.args.greatest (length card)) (sym wide.ensures) z)))
-    (refused_on_lem (seen s.args.line card) b card 1 refl)
+    (λ z. c.is_sized.ensures.1 (c.if-not-is_sized.true) (subst (Sized c.args.greatest (length card)) (sym wide.ensures) z)))
+    (refused_on_lem (seen c.args.line card) b card 1 refl)
 
-slice-read-if3 : tie.Need-slice-read-if3
-slice-read-if3 c = search rules
+bounds-state-2 : tie.Need-bounds-state-2
+bounds-state-2 c = search rules
 
-step-format-requires : tie.Need-step-format-requires
-step-format-requires c κs =
-    let if1 = c.before.before.before.before.before.before.before.before.if1 in
-    let if3 = c.before.before.if3 in
-    let at_sized = c.before.before.before.before in
-    (if1.false, if3.true, sized_any (sized at_sized))
+step_format-requires : tie.Need-step_format-requires
+step_format-requires c κs =
+    let if1 = c.if-state-ne-STATE_WORDS in
+    let if3 = c.if-state-eq-FORMATTING in
+    (if1.false, if3.true, sized_any (sized c.before.before.before.before))
 
-same_length : tie.Need-same-length
-same_length c = search rules
+shape_of-card-then-state-eq-FORMATTING : tie.Need-shape_of-card-then-state-eq-FORMATTING
+shape_of-card-then-state-eq-FORMATTING c = search rules
 
-same-length-2 : tie.Need-same-length-2
-same-length-2 c = search rules
+shape_of-state-then-state-eq-FORMATTING : tie.Need-shape_of-state-then-state-eq-FORMATTING
+shape_of-state-then-state-eq-FORMATTING c = search rules
 
-returns-3 : tie.Need-returns-3
+returns-then-state-eq-FORMATTING : tie.Need-returns-then-state-eq-FORMATTING
 unfolding memory_in
-returns-3 c =
-    let s = c.before.before.before.before.before.before.before.before.before.before.before.before.before.before.before.before in
-    let card = s.args.card.now in
-    let b = s.args.state.now in
-    let if1 = c.before.before.before.before.before.before.before.before.before.before.before.before.before.if1 in
-    let if3 = c.before.before.before.before.before.before.before.if3 in
-    let step_format_lem = c.before.before.before.before.step-format in
-    let at_sized = c.before.before.before.before.before.before.before.before.before in
+returns-then-state-eq-FORMATTING c =
+    let card = c.args.card.now in
+    let b = c.args.state.now in
+    let if1 = c.if-state-ne-STATE_WORDS in
+    let if3 = c.if-state-eq-FORMATTING in
+    let step_format_lem = c.step_format in
     call_made _ _ card b _ if1.false
-    (step_sized _ _ card (memory_in b) (sized at_sized) ∙ doing_format b _ card if3.true)
-    (format_any card (seen s.args.line card) b if3.true step_format_lem.ensures)
+    (step_sized _ _ card (memory_in b) (sized c.before.before.before.before.before.before.before.before.before) ∙ doing_format b _ card if3.true)
+    (format_any card (seen c.args.line card) b if3.true step_format_lem.ensures)
 
-header-refusal-requires : tie.Need-header-refusal-requires
-header-refusal-requires c κs = omega (arith, (sized c.before.before.before).words)
+header_refusal-refusal-requires : tie.Need-header_refusal-refusal-requires
+header_refusal-refusal-requires c κs = omega (arith, (sized c.before.before).words)
 
-same-length-3 : tie.Need-same-length-3
-same-length-3 c = search rules
+shape_of-card-then-refusal-ne0 : tie.Need-shape_of-card-then-refusal-ne0
+shape_of-card-then-refusal-ne0 c = search rules
 
-returns-4 : tie.Need-returns-4
+returns-then-refusal-ne0 : tie.Need-returns-then-refusal-ne0
 unfolding memory_in
-returns-4 c =
-    let s = c.before.before.before.before.before.before.before.before.before.before.before.before in
-    let card = s.args.card.now in
-    let b = s.args.state.now in
-    let if1 = c.before.before.before.before.before.before.before.before.before.if1 in
-    let wide = c.before.before.before.before.before.before.before.wide in
-    let if3 = c.before.before.before.if3 in
-    let at_sized = c.before.before.before.before.before in
+returns-then-refusal-ne0 c =
+    let card = c.args.card.now in
+    let b = c.args.state.now in
+    let if1 = c.if-state-ne-STATE_WORDS in
+    let wide = c.wide-n in
+    let if3 = c.if-state-eq-FORMATTING in
     let m = memory_in b in
     call_made _ _ card b _ if1.false
-    (step_sized _ _ card m (sized at_sized)
-    ∙ held_unchecked _ card m c.before.header-refusal.result (c.before.header-refusal.ensures ∙ ap (header_refusal card) wide.ensures) c.if4.true
+    (step_sized _ _ card m (sized c.before.before.before.before)
+    ∙ held_unchecked _ card m c.header_refusal-refusal.result (c.header_refusal-refusal.ensures ∙ ap (header_refusal card) wide.ensures) c.if-refusal-ne0.true
     (held_by m.doing) (not_formatting b if3.false))
-    (refused_on_lem (seen s.args.line card) b card c.before.header-refusal.result refl)
+    (refused_on_lem (seen c.args.line card) b card c.header_refusal-refusal.result refl)
 
-has-store-requires : tie.Need-has-store-requires
-has-store-requires c κs = search rules
+has_store-requires : tie.Need-has_store-requires
+has_store-requires c κs = search rules
 
-store-next-requires : tie.Need-store-next-requires
-store-next-requires c κs =
-    let if1 = c.before.before.before.before.before.before.before.before.before.before.before.before.before.before.if1 in
-    let s = c.before.before.before.before.before.before.before.before.before.before.before.before.before.before.before.before.before in
-    let at_sized = c.before.before.before.before.before.before.before.before.before.before in
-    let h = in_hand_lem c.before.before in (if1.false, h.0, h.1, omega (arith, (sized at_sized).words), s.requires)
+store_next-requires : tie.Need-store_next-requires
+store_next-requires c κs =
+    let if1 = c.if-state-ne-STATE_WORDS in
+    let h = in_hand_lem c.before.before in (if1.false, h.0, h.1, omega (arith, (sized c.before.before.before.before.before.before.before.before).words), c.requires)
 
-same-length-4 : tie.Need-same-length-4
-same-length-4 c = search rules
+shape_of-card-then-has_store : tie.Need-shape_of-card-then-has_store
+shape_of-card-then-has_store c = search rules
 
-same-length-5 : tie.Need-same-length-5
-same-length-5 c = search rules
+shape_of-state-then-has_store : tie.Need-shape_of-state-then-has_store
+shape_of-state-then-has_store c = search rules
 
-returns-5 : tie.Need-returns-5
+returns-then-has_store : tie.Need-returns-then-has_store
 unfolding memory_in
-returns-5 c =
-    let s = c.before.before.before.before.before.before.before.before.before.before.before.before.before.before.before.before.before.before.before.before.before.before in
-    let card = s.args.card.now in
-    let b = s.args.state.now in
-    let if1 = c.before.before.before.before.before.before.before.before.before.before.before.before.before.before.before.before.before.before.before.if1 in
-    let store_next = c.before.before.before.before.store-next in
-    let at_in_hand = c.before.before.before.before.before.before.before in
-    let at_sized = c.before.before.before.before.before.before.before.before.before.before.before.before.before.before.before in
-    let at_header_right = c.before.before.before.before.before.before.before.before.before.before in
+returns-then-has_store c =
+    let card = c.args.card.now in
+    let b = c.args.state.now in
+    let if1 = c.if-state-ne-STATE_WORDS in
+    let store_next = c.store_next in
     let m = memory_in b in
-    let h = in_hand_lem at_in_hand in
+    let h = in_hand_lem c.before.before.before.before.before.before.before in
     call_made _ _ card b _ if1.false
-    (step_sized _ _ card m (sized at_sized) ∙ task_stores _ card m (header_right at_header_right) h.1 h.0)
-    (as_made s.args.line card b refl store_next.ensures)
+    (step_sized _ _ card m (sized c.before.before.before.before.before.before.before.before.before.before.before.before.before) ∙ task_stores _ card m (header_right c.before.before.before.before.before.before.before.before.before) h.1 h.0)
+    (as_made c.args.line card b refl store_next.ensures)
 
-step-plan-requires : tie.Need-step-plan-requires
-step-plan-requires c κs =
-    let if1 = c.before.before.before.before.before.before.before.before.before.before.before.before.before.before.if1 in
-    let if3 = c.before.before.before.before.before.before.before.before.if3 in
-    let has_store = c.before.before.before.has-store in
-    let if5 = c.before.before.if5 in
-    let at_sized = c.before.before.before.before.before.before.before.before.before.before in
-    let at_header_right = c.before.before.before.before.before in
-    let s = c.before.before.before.before.before.before.before.before.before.before.before.before.before.before.before.before.before in
-    (if1.false, sized_any (sized at_sized), header_right at_header_right, if3.false, sym has_store.ensures ∙ if5.false, s.requires)
+step_plan-requires : tie.Need-step_plan-requires
+step_plan-requires c κs =
+    let if1 = c.if-state-ne-STATE_WORDS in
+    let if3 = c.if-state-eq-FORMATTING in
+    let has_store = c.has_store in
+    let if5 = c.if-has_store in
+    (if1.false, sized_any (sized c.before.before.before.before.before.before.before.before), header_right c.before.before.before.before, if3.false, sym has_store.ensures ∙ if5.false, c.requires)
 
-same-length-6 : tie.Need-same-length-6
-same-length-6 c = search rules
+shape_of-card : tie.Need-shape_of-card
+shape_of-card c = search rules
 
-same-length-7 : tie.Need-same-length-7
-same-length-7 c = search rules
+shape_of-state : tie.Need-shape_of-state
+shape_of-state c = search rules
 
-returns-6 : tie.Need-returns-6
+returns : tie.Need-returns
 unfolding memory_in
-returns-6 c =
-    let s = c.before.before.before.before.before.before.before.before.before.before.before.before.before.before.before.before.before.before.before.before.before.before in
-    let card = s.args.card.now in
-    let b = s.args.state.now in
-    let if1 = c.before.before.before.before.before.before.before.before.before.before.before.before.before.before.before.before.before.before.before.if1 in
-    let step_plan = c.before.before.before.before.step-plan in
-    let at_sized = c.before.before.before.before.before.before.before.before.before.before.before.before.before.before.before in
-    call_made _ _ card b _ if1.false (step_sized _ _ card (memory_in b) (sized at_sized)) step_plan.ensures
+returns c =
+    let card = c.args.card.now in
+    let b = c.args.state.now in
+    let if1 = c.if-state-ne-STATE_WORDS in
+    let step_plan = c.step_plan in
+    call_made _ _ card b _ if1.false (step_sized _ _ card (memory_in b) (sized c.before.before.before.before.before.before.before.before.before.before.before.before.before)) step_plan.ensures
 
 pub step_spec : {M : Type 1} → statement M
 step_spec =
     tie.close
     (tie.spec
-    returns
-    slice-read-wide
-    wide-requires
-    is-sized-requires
-    returns-2
-    slice-read-if3
-    step-format-requires
-    same_length
-    same-length-2
-    returns-3
-    header-refusal-requires
-    same-length-3
-    returns-4
-    has-store-requires
-    store-next-requires
-    same-length-4
-    same-length-5
-    returns-5
-    step-plan-requires
-    same-length-6
-    same-length-7
-    returns-6)
+    returns-then-state-ne-STATE_WORDS
+    bounds-state-0
+    wide-n-requires
+    is_sized-requires
+    returns-then-not-is_sized
+    bounds-state-2
+    step_format-requires
+    shape_of-card-then-state-eq-FORMATTING
+    shape_of-state-then-state-eq-FORMATTING
+    returns-then-state-eq-FORMATTING
+    header_refusal-refusal-requires
+    shape_of-card-then-refusal-ne0
+    returns-then-refusal-ne0
+    has_store-requires
+    store_next-requires
+    shape_of-card-then-has_store
+    shape_of-state-then-has_store
+    returns-then-has_store
+    step_plan-requires
+    shape_of-card
+    shape_of-state
+    returns)

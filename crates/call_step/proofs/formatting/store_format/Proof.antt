@@ -11,45 +11,44 @@ use Rattle.call_step.proofs.formatting.store_format.Tie as tie
 wide-requires : tie.Need-wide-requires
 wide-requires c κs = search rules
 
-mul-card : tie.Need-overflow-mul-card
-mul-card c = search rules
+offset_bounds-card-wide : tie.Need-offset_bounds-card-wide
+offset_bounds-card-wide c = search rules
 
-slice-write-card : tie.Need-slice-write-card
-slice-write-card c = search rules
+bounds-card-wide : tie.Need-bounds-card-wide
+bounds-card-wide c = search rules
 
-slice-read-state : tie.Need-slice-read-state
-slice-read-state c = search rules
+bounds-state-3 : tie.Need-bounds-state-3
+bounds-state-3 c = search rules
 
-add-state : tie.Need-overflow-add-state
-add-state c = search rules
+overflow_add-state : tie.Need-overflow_add-state
+overflow_add-state c = search rules
 
-slice-write-state : tie.Need-slice-write-state
-slice-write-state c = search rules
+bounds-state-3-2 : tie.Need-bounds-state-3-2
+bounds-state-3-2 c = search rules
 
-same_length : tie.Need-same-length
-same_length c = search rules
+shape_of-card : tie.Need-shape_of-card
+shape_of-card c = search rules
 
-same-length-2 : tie.Need-same-length-2
-same-length-2 c = search rules
+shape_of-state : tie.Need-shape_of-state
+shape_of-state c = search rules
 
 returns : tie.Need-returns
-returns c =
-    let s = c.before.before.before.before in (
-      refl,
-      ap (λ (i : ℕ). set s.args.card.now i s.args.word) c.before.wide.ensures,
-      ap (set s.args.state.now 3) (add-one (block_word s.args.state.now 3)),
-    )
+returns c = (
+  refl,
+  ap (λ (i : ℕ). set c.args.card.now i c.args.word) c.wide.ensures,
+  ap (set c.args.state.now 3) (add-one (block_word c.args.state.now 3)),
+)
 
 pub store_format_spec : {M : Type 1} → statement M
 store_format_spec =
     tie.close
     (tie.spec
     wide-requires
-    mul-card
-    slice-write-card
-    slice-read-state
-    add-state
-    slice-write-state
-    same_length
-    same-length-2
+    offset_bounds-card-wide
+    bounds-card-wide
+    bounds-state-3
+    overflow_add-state
+    bounds-state-3-2
+    shape_of-card
+    shape_of-state
     returns)

@@ -39,159 +39,139 @@ among c =
     (free_span c.args.state.now [] c.requires.0) c.requires.3
 
 -- the rows and the words of the free nodes are as long as they were
-places_row : (c : tie.After-lay-places) → length c.lay-places.new.1.1.0 ≡ 73
+places_row : (c : tie.After-lay_places) → length c.lay_places.new.places ≡ 73
 places_row c =
-    let s = c.before.before.before.before in
-    c.lay-places.auto.1.1.0 ∙ part_length s.args.state.now places_at 73 (omega (arith, s.requires.0))
+    c.lay_places.auto.places ∙ part_length c.args.state.now places_at 73 (omega (arith, c.requires.0))
 
-values_row_lem : (c : tie.After-lay-values) → length c.lay-values.new.1.1.1.0 ≡ 73
+values_row_lem : (c : tie.After-lay_values) → length c.lay_values.new.values ≡ 73
 values_row_lem c =
-    let s = c.before.before.before.before.before.before.before.before in
-    let b = s.args.state.now in
-    let lay_places_call = c.before.before.before.before.lay-places in
-    let at_places_row = c.before.before.before.before in
-    let x = lay_places_call.new.1.1.0 in
-    c.lay-values.auto.1.1.1.0
-    ∙ part_length (placed places_at 73 b x) values_at 73 (omega (arith, places_length b x s.requires.0 (places_row at_places_row)))
+    let b = c.args.state.now in
+    let lay_places_call = c.lay_places in
+    let x = lay_places_call.new.places in
+    c.lay_values.auto.values
+    ∙ part_length (placed places_at 73 b x) values_at 73 (omega (arith, places_length b x c.requires.0 (places_row c.before.before.before.before)))
 
-free_row : (c : tie.After-take) → length c.take.new.0 ≡ word_count
+free_row : (c : tie.After-take-last) → length c.take-last.new.free ≡ word_count
 free_row c =
-    let s = c.before.before.before.before.before.before.before.before.before.before.before.before.before in
-    let lay_places_call = c.before.before.before.before.before.before.before.before.before.lay-places in
-    let lay_values_call = c.before.before.before.before.before.lay-values in
-    let at_places_row = c.before.before.before.before.before.before.before.before.before in
-    let at_values_row = c.before.before.before.before.before in
-    let x = lay_places_call.new.1.1.0 in
-    let y = lay_values_call.new.1.1.1.0 in
-    c.take.auto.0
-    ∙ part_length (placed values_at 73 (placed places_at 73 s.args.state.now x) y) free_at word_count
-    (omega (arith, values_length s.args.state.now x s.requires.0 (places_row at_places_row) y (values_row_lem at_values_row)))
+    let lay_places_call = c.lay_places in
+    let lay_values_call = c.lay_values in
+    let x = lay_places_call.new.places in
+    let y = lay_values_call.new.values in
+    c.take-last.auto.free
+    ∙ part_length (placed values_at 73 (placed places_at 73 c.args.state.now x) y) free_at word_count
+    (omega (arith, values_length c.args.state.now x c.requires.0 (places_row c.before.before.before.before.before.before.before.before.before) y (values_row_lem c.before.before.before.before.before)))
 
 -- the words of the free nodes are those of the nodes that are free then
-free_words : (c : tie.After-slice-known5) →
-    let s = c.before.before.before.before.before.before.before.before.before.before.before.before.before.before.before in
-    c.before.before.take.new.0
-    ≡ words_of word_count (without_all (take (needed s.args.decision) s.args.nodes) (nodes_of (part s.args.state.now free_at word_count)))
+free_words : (c : tie.After-slice_known-5-1) →
+    c.take-last.new.free
+    ≡ words_of word_count (without_all (take (needed c.args.decision) c.args.nodes) (nodes_of (part c.args.state.now free_at word_count)))
 free_words c =
-    let s = c.before.before.before.before.before.before.before.before.before.before.before.before.before.before.before in
-    let b = s.args.state.now in
-    let lay_places_call = c.before.before.before.before.before.before.before.before.before.before.before.lay-places in
-    let lay_values_call = c.before.before.before.before.before.before.before.lay-values in
-    let take_call = c.before.before.take in
-    let at_places_row = c.before.before.before.before.before.before.before.before.before.before.before in
-    let at_values_row = c.before.before.before.before.before.before.before in
-    let x = lay_places_call.new.1.1.0 in
-    let y = lay_values_call.new.1.1.1.0 in
-    let z = take_call.new.0 in
+    let b = c.args.state.now in
+    let lay_places_call = c.lay_places in
+    let lay_values_call = c.lay_values in
+    let take_call = c.take-last in
+    let x = lay_places_call.new.places in
+    let y = lay_values_call.new.values in
+    let z = take_call.new.free in
     let old = placed values_at 73 (placed places_at 73 b x) y in
     let read : part (placed free_at word_count old z) free_at word_count ≡ z =
-    placed_part old z free_at word_count (free_row c.before.before) (omega (arith, values_length b x s.requires.0 (places_row at_places_row) y (values_row_lem at_values_row))) in
+    placed_part old z free_at word_count (free_row c.before.before) (omega (arith, values_length b x c.requires.0 (places_row c.before.before.before.before.before.before.before.before.before.before.before) y (values_row_lem c.before.before.before.before.before.before.before))) in
     let small : (i : ℕ) → get_or z i 0 < 2 ^ 32 =
-    λ i. subst (λ (l : List ℕ). get_or l i 0 < 2 ^ 32) read (part_small (placed free_at word_count old z) free_at word_count (λ j. omega (arith, c.slice-known5.given j)) i) in
+    λ i. subst (λ (l : List ℕ). get_or l i 0 < 2 ^ 32) read (part_small (placed free_at word_count old z) free_at word_count (λ j. omega (arith, c.slice_known-5-1.given j)) i) in
     sym (words_nodes z small)
     ∙ ap₂ words_of (free_row c.before.before)
     (take_call.ensures.0
-    ∙ ap₂ (λ (k : ℕ) (l : List ℕ). without_all (take k s.args.nodes) (nodes_of l)) (nodes_are s)
-    (free_stood b x s.requires.0 (places_row at_places_row) y (values_row_lem at_values_row)))
+    ∙ ap₂ (λ (k : ℕ) (l : List ℕ). without_all (take k c.args.nodes) (nodes_of l)) (nodes_are c.before.before.before.before.before.before.before.before.before.before.before.before.before.before.before)
+    (free_stood b x c.requires.0 (places_row c.before.before.before.before.before.before.before.before.before.before.before) y (values_row_lem c.before.before.before.before.before.before.before)))
 
-sub-lay-places : tie.Need-overflow-sub-lay-places
-sub-lay-places c = search rules
+slice_bounds-lay_places-count : tie.Need-slice_bounds-lay_places-count
+slice_bounds-lay_places-count c = search rules
 
-part-lay-places-start : tie.Need-slice-bounds-lay-places-start
-part-lay-places-start c = search rules
+slice_bounds-lay_places-start : tie.Need-slice_bounds-lay_places-start
+slice_bounds-lay_places-start c = search rules
 
-part-lay-places-end : tie.Need-slice-bounds-lay-places-end
-part-lay-places-end c = search rules
+slice_bounds-lay_places-end : tie.Need-slice_bounds-lay_places-end
+slice_bounds-lay_places-end c = search rules
 
-lay-places-requires : tie.Need-lay-places-requires
-lay-places-requires c κs =
-    let s = c.before.before.before in
-    let numbers = all_numbered (needed s.args.decision) s.args.nodes (among s) in
-    ((s.args.card.now, s.requires.1), numbers, part_length s.args.state.now places_at 73 (omega (arith, s.requires.0)))
+lay_places-requires : tie.Need-lay_places-requires
+lay_places-requires c κs =
+    let numbers = all_numbered (needed c.args.decision) c.args.nodes (among c.before.before.before) in
+    ((c.args.card.now, c.requires.1), numbers, part_length c.args.state.now places_at 73 (omega (arith, c.requires.0)))
 
-sub-lay-values : tie.Need-overflow-sub-lay-values
-sub-lay-values c = search rules
+slice_bounds-lay_values-count : tie.Need-slice_bounds-lay_values-count
+slice_bounds-lay_values-count c = search rules
 
-part-lay-values-start : tie.Need-slice-bounds-lay-values-start
-part-lay-values-start c = search rules
+slice_bounds-lay_values-start : tie.Need-slice_bounds-lay_values-start
+slice_bounds-lay_values-start c = search rules
 
-part-lay-values-end : tie.Need-slice-bounds-lay-values-end
-part-lay-values-end c = search rules
+slice_bounds-lay_values-end : tie.Need-slice_bounds-lay_values-end
+slice_bounds-lay_values-end c = search rules
 
-lay-values-requires : tie.Need-lay-values-requires
-lay-values-requires c κs = search rules
+lay_values-requires : tie.Need-lay_values-requires
+lay_values-requires c κs = search rules
 
-slice-read-before : tie.Need-slice-read-before
-slice-read-before c = search rules
+bounds-state-1 : tie.Need-bounds-state-1
+bounds-state-1 c = search rules
 
-sub-take : tie.Need-overflow-sub-take
-sub-take c = search rules
+slice_bounds-take-count : tie.Need-slice_bounds-take-count
+slice_bounds-take-count c = search rules
 
-part-take-start : tie.Need-slice-bounds-take-start
-part-take-start c = search rules
+slice_bounds-take-start : tie.Need-slice_bounds-take-start
+slice_bounds-take-start c = search rules
 
-part-take-end : tie.Need-slice-bounds-take-end
-part-take-end c = search rules
+slice_bounds-take-end : tie.Need-slice_bounds-take-end
+slice_bounds-take-end c = search rules
 
-take-requires : tie.Need-take-requires
-take-requires c κs =
-    let s = c.before.before.before.before.before.before.before.before.before.before.before.before in
-    let b = s.args.state.now in
-    let lay_places_call = c.before.before.before.before.before.before.before.before.lay-places in
-    let lay_values_call = c.before.before.before.before.lay-values in
-    let at_places_row = c.before.before.before.before.before.before.before.before in
-    let at_values_row = c.before.before.before.before in
-    let at_nodes_are = c.before.before.before.before.before.before.before.before.before.before.before.before in (
-      ap length (free_stood b lay_places_call.new.1.1.0 s.requires.0 (places_row at_places_row) lay_values_call.new.1.1.1.0 (values_row_lem at_values_row))
-          ∙ free_span b [] s.requires.0,
-      omega (arith, nodes_are at_nodes_are, needed_few s.args.decision),
-      subst (λ (k : ℕ). Among k s.args.nodes) (sym (nodes_are at_nodes_are)) (among at_nodes_are),
+take-last-requires : tie.Need-take-last-requires
+take-last-requires c κs =
+    let b = c.args.state.now in
+    let lay_places_call = c.lay_places in
+    let lay_values_call = c.lay_values in (
+      ap length (free_stood b lay_places_call.new.places c.requires.0 (places_row c.before.before.before.before.before.before.before.before) lay_values_call.new.values (values_row_lem c.before.before.before.before))
+          ∙ free_span b [] c.requires.0,
+      omega (arith, nodes_are c.before.before.before.before.before.before.before.before.before.before.before.before, needed_few c.args.decision),
+      subst (λ (k : ℕ). Among k c.args.nodes) (sym (nodes_are c.before.before.before.before.before.before.before.before.before.before.before.before)) (among c.before.before.before.before.before.before.before.before.before.before.before.before),
     )
 
-slice-read-t19 : tie.Need-slice-read-t19
-slice-read-t19 c = search rules
+bounds-state-0 : tie.Need-bounds-state-0
+bounds-state-0 c = search rules
 
-cut-of-requires : tie.Need-cut-of-requires
-cut-of-requires c κs = search rules
+cut_of-requires : tie.Need-cut_of-requires
+cut_of-requires c κs = search rules
 
-store-head-requires : tie.Need-store-head-requires
-store-head-requires c κs = search rules
+store_head-requires : tie.Need-store_head-requires
+store_head-requires c κs = search rules
 
-same_length : tie.Need-same-length
-same_length c = search rules
+shape_of-state : tie.Need-shape_of-state
+shape_of-state c = search rules
 
 returns : tie.Need-returns
 returns c =
-    let s = c.before.before.before.before.before.before.before.before.before.before.before.before.before.before.before.before.before.before.before.before.before in
-    let card = s.args.card.now in
-    let lay_places_call = c.before.before.before.before.before.before.before.before.before.before.before.before.before.before.before.before.before.lay-places in
-    let lay_values_call = c.before.before.before.before.before.before.before.before.before.before.before.before.before.lay-values in
-    let take_call = c.before.before.before.before.before.before.before.before.take in
-    let store_head = c.before.before.store-head in
-    let cut_of = c.before.before.before.before.cut_of in
-    let at_places_row = c.before.before.before.before.before.before.before.before.before.before.before.before.before.before.before.before.before in
-    let at_values_row = c.before.before.before.before.before.before.before.before.before.before.before.before.before in
-    let at_free_row = c.before.before.before.before.before.before.before.before in
-    let at_free_words = c.before.before.before.before.before.before in
-    let b = s.args.state.now in
-    let d = s.args.decision in
-    let nodes = s.args.nodes in
-    let x = lay_places_call.new.1.1.0 in
-    let y = lay_values_call.new.1.1.1.0 in
-    let z = take_call.new.0 in
-    let same = word_stood b x s.requires.0 (places_row at_places_row) y (values_row_lem at_values_row) z (free_row at_free_row) in
-    let head = head_stood b x s.requires.0 (places_row at_places_row) y (values_row_lem at_values_row) in
-    let stood = values_stood b x s.requires.0 (places_row at_places_row) in
+    let card = c.args.card.now in
+    let lay_places_call = c.lay_places in
+    let lay_values_call = c.lay_values in
+    let take_call = c.take-last in
+    let store_head = c.store_head in
+    let cut_of = c.cut_of in
+    let b = c.args.state.now in
+    let d = c.args.decision in
+    let nodes = c.args.nodes in
+    let x = lay_places_call.new.places in
+    let y = lay_values_call.new.values in
+    let z = take_call.new.free in
+    let same = word_stood b x c.requires.0 (places_row c.before.before.before.before.before.before.before.before.before.before.before.before.before.before.before.before.before) y (values_row_lem c.before.before.before.before.before.before.before.before.before.before.before.before.before) z (free_row c.before.before.before.before.before.before.before.before) in
+    let head = head_stood b x c.requires.0 (places_row c.before.before.before.before.before.before.before.before.before.before.before.before.before.before.before.before.before) y (values_row_lem c.before.before.before.before.before.before.before.before.before.before.before.before.before) in
+    let stood = values_stood b x c.requires.0 (places_row c.before.before.before.before.before.before.before.before.before.before.before.before.before.before.before.before.before) in
     let values = lay_values_call.ensures ∙ ap (λ (l : List ℕ). words_by card d nodes ++ drop (store_count d) l) stood in
     let count : length (words_by card d nodes) ≡ store_count d =
-    words_count card d nodes y (part b values_at 73) values (values_row_lem at_values_row) (part_length b values_at 73 (omega (arith, s.requires.0))) in (
+    words_count card d nodes y (part b values_at 73) values (values_row_lem c.before.before.before.before.before.before.before.before.before.before.before.before.before) (part_length b values_at 73 (omega (arith, c.requires.0))) in (
       store_head.ensures
-          ∙ plan_stored card b s.args.doing d nodes (three s) count _ x y z _ (same 0 (omega arith))
-          (take_call.ensures.1 ∙ ap₂ (λ (w k : ℕ). last_of w (take k nodes)) (head 1 (omega arith)) (nodes_are s))
-          refl refl (stores_are s) cut_of.ensures (rows_placed b z x y s.requires.0 (free_row at_free_row) (places_row at_places_row) (values_row_lem at_values_row))
+          ∙ plan_stored card b c.args.doing d nodes (three c.before.before.before.before.before.before.before.before.before.before.before.before.before.before.before.before.before.before.before.before.before) count _ x y z _ (same 0 (omega arith))
+          (take_call.ensures.1 ∙ ap₂ (λ (w k : ℕ). last_of w (take k nodes)) (head 1 (omega arith)) (nodes_are c.before.before.before.before.before.before.before.before.before.before.before.before.before.before.before.before.before.before.before.before.before))
+          refl refl (stores_are c.before.before.before.before.before.before.before.before.before.before.before.before.before.before.before.before.before.before.before.before.before) cut_of.ensures (rows_placed b z x y c.requires.0 (free_row c.before.before.before.before.before.before.before.before) (places_row c.before.before.before.before.before.before.before.before.before.before.before.before.before.before.before.before.before) (values_row_lem c.before.before.before.before.before.before.before.before.before.before.before.before.before))
           lay_places_call.ensures
           values
-          (free_words at_free_words),
+          (free_words c.before.before.before.before.before.before),
       count,
     )
 
@@ -199,21 +179,21 @@ pub plan_spec : {M : Type 1} → statement M
 plan_spec =
     tie.close
     (tie.spec
-    sub-lay-places
-    part-lay-places-start
-    part-lay-places-end
-    lay-places-requires
-    sub-lay-values
-    part-lay-values-start
-    part-lay-values-end
-    lay-values-requires
-    slice-read-before
-    sub-take
-    part-take-start
-    part-take-end
-    take-requires
-    slice-read-t19
-    cut-of-requires
-    store-head-requires
-    same_length
+    slice_bounds-lay_places-count
+    slice_bounds-lay_places-start
+    slice_bounds-lay_places-end
+    lay_places-requires
+    slice_bounds-lay_values-count
+    slice_bounds-lay_values-start
+    slice_bounds-lay_values-end
+    lay_values-requires
+    bounds-state-1
+    slice_bounds-take-count
+    slice_bounds-take-start
+    slice_bounds-take-end
+    take-last-requires
+    bounds-state-0
+    cut_of-requires
+    store_head-requires
+    shape_of-state
     returns)

@@ -26,197 +26,177 @@ unfolding size_of
 nodes_are c = ap (λ (z : Size). z.nodes) c.requires.4
 
 -- the numbers that the decision needs
-given : (c : tie.After-left) →
-    let s = c.before.before.before.before.before.before.before.before in
-    let k = needed s.args.decision in
-    take_numbers k (nodes_of (part s.args.state.now free_at word_count)) (block_word s.args.state.now 1)
-    ≡ some (take k (c.left.given.0.0 ∷ c.left.given.0.1.0 ∷ c.left.given.0.1.1.0 ∷ []))
+given : (c : tie.In-Nodes) →
+    let k = needed c.args.decision in
+    take_numbers k (nodes_of (part c.args.state.now free_at word_count)) (block_word c.args.state.now 1)
+    ≡ some (take k (c.in-Nodes.left ∷ c.in-Nodes.right ∷ c.in-Nodes.above ∷ []))
 unfolding given_by
 given c =
-    let s = c.before.before.before.before.before.before.before.before in
-    let wide = c.before.before.before.wide in
-    let give = c.before.before.give in
-    ap₂ (λ (k w : ℕ). take_numbers k (nodes_of (part s.args.state.now free_at word_count)) w) (sym (nodes_are s)) (sym wide.ensures)
+    let wide = c.wide in
+    let give = c.give in
+    ap₂ (λ (k w : ℕ). take_numbers k (nodes_of (part c.args.state.now free_at word_count)) w) (sym (nodes_are c.before.before.before.before.before.before)) (sym wide.ensures)
     ∙ give.ensures.0
-    ∙ ap (λ (g : Given). given_by g s.args.size.nodes) c.left.given.1
-    ∙ ap (λ (k : ℕ). some (take k (c.left.given.0.0 ∷ c.left.given.0.1.0 ∷ c.left.given.0.1.1.0 ∷ []))) (nodes_are s)
+    ∙ ap (λ (g : Given). given_by g c.args.size.nodes) c.in-Nodes.is
+    ∙ ap (λ (k : ℕ). some (take k (c.in-Nodes.left ∷ c.in-Nodes.right ∷ c.in-Nodes.above ∷ []))) (nodes_are c.before.before.before.before.before.before)
 
 -- the first store is on the card
-on_card_lem : (c : tie.After-wide2) →
-    let s = c.before.before.before.before.before.before.before.before.before.before.before.before.before.before.before.before.before.before.before.before in
-    c.wide2.result < length s.args.card.now
+on_card_lem : (c : tie.After-wide-2) →
+    c.wide-2.result < length c.args.card.now
 on_card_lem c =
-    let s = c.before.before.before.before.before.before.before.before.before.before.before.before.before.before.before.before.before.before.before.before in
-    let card = s.args.card.now in
-    let b = s.args.state.now in
-    let plan = c.before.before.before.before.before.before.plan in
-    let if1 = c.before.before.before.before.before.before.before.before.before.if1 in
-    let at_given = c.before.before.before.before.before.before.before.before.before.before.before.before in
+    let card = c.args.card.now in
+    let b = c.args.state.now in
+    let plan = c.plan in
+    let if1 = c.if-state-left in
     let n = block_word b 0 in
-    subst (λ (k : ℕ). k < length card) (sym c.wide2.ensures)
-    (change_on_card greatest_nodes card b s.requires.0 s.args.doing s.args.decision s.requires.2 s.requires.3 n s.requires.1 _ _ _ (given at_given)
+    subst (λ (k : ℕ). k < length card) (sym c.wide-2.ensures)
+    (change_on_card greatest_nodes card b c.requires.0 c.args.doing c.args.decision c.requires.2 c.requires.3 n c.requires.1 _ _ _ (given c.before.before.before.before.before.before.before.before.before.before)
     plan.ensures.1 _ plan.ensures.0 if1.false)
 
-sub-give : tie.Need-overflow-sub-give
-sub-give c = search rules
+slice_bounds-give-count : tie.Need-slice_bounds-give-count
+slice_bounds-give-count c = search rules
 
-part-give-start : tie.Need-slice-bounds-give-start
-part-give-start c = search rules
+slice_bounds-give-start : tie.Need-slice_bounds-give-start
+slice_bounds-give-start c = search rules
 
-part-give-end : tie.Need-slice-bounds-give-end
-part-give-end c = search rules
+slice_bounds-give-end : tie.Need-slice_bounds-give-end
+slice_bounds-give-end c = search rules
 
-slice-reshared-read-wide : tie.Need-slice-reshared-read-wide
-slice-reshared-read-wide c = search rules
+slice_reshared_read-wide : tie.Need-slice_reshared_read-wide
+slice_reshared_read-wide c = search rules
 
 wide-requires : tie.Need-wide-requires
 wide-requires c κs = search rules
 
 give-requires : tie.Need-give-requires
 give-requires c κs =
-    let s = c.before.before.before.before.before in
-    (free_span s.args.state.now [] s.requires.0, omega (arith, nodes_are s, needed_few s.args.decision))
+    (free_span c.args.state.now [] c.requires.0, omega (arith, nodes_are c.before.before.before.before, needed_few c.args.decision))
 
-enum-known-left : tie.Need-enum-known-left
-enum-known-left c = search rules
+enum_known-left : tie.Need-enum_known-left
+enum_known-left c = search rules
 
-enum_told : tie.Need-enum-told
-enum_told c = search rules
+enum_told-1 : tie.Need-enum_told-1
+enum_told-1 c = search rules
 
-same_length : tie.Need-same-length
-same_length c = search rules
+shape_of-state-in_default : tie.Need-shape_of-state-in_default
+shape_of-state-in_default c = search rules
 
-returns : tie.Need-returns
+returns-in_default : tie.Need-returns-in_default
 unfolding given_by
-returns c =
-    let s = c.before.before.before.before.before.before.before.before in
-    let d = s.args.decision in
-    let wide = c.before.before.before.wide in
-    let give = c.before.before.give in
-    let b = s.args.state.now in
+returns-in_default c =
+    let d = c.args.decision in
+    let wide = c.wide in
+    let give = c.give in
+    let b = c.args.state.now in
     let few : take_numbers (needed d) (nodes_of (part b free_at word_count)) (block_word b 1) ≡ none =
-    ap₂ (λ (k w : ℕ). take_numbers k (nodes_of (part b free_at word_count)) w) (sym (nodes_are s)) (sym wide.ensures) ∙ give.ensures.0
-    ∙ ap (λ (g : Given). given_by g s.args.size.nodes) c.enum_told.given.1 in
-    λ line changes. change_none greatest_nodes s.args.card.now b s.requires.0 s.args.doing d s.requires.2 s.requires.3 line changes few
+    ap₂ (λ (k w : ℕ). take_numbers k (nodes_of (part b free_at word_count)) w) (sym (nodes_are c.before.before.before.before.before.before)) (sym wide.ensures) ∙ give.ensures.0
+    ∙ ap (λ (g : Given). given_by g c.args.size.nodes) c.in_default.is in
+    λ line changes. change_none greatest_nodes c.args.card.now b c.requires.0 c.args.doing d c.requires.2 c.requires.3 line changes few
 
-slice-read-if1 : tie.Need-slice-read-if1
-slice-read-if1 c = search rules
+bounds-state-0 : tie.Need-bounds-state-0
+bounds-state-0 c = search rules
 
-same-length-2 : tie.Need-same-length-2
-same-length-2 c = search rules
+shape_of-state-then-state-left : tie.Need-shape_of-state-then-state-left
+shape_of-state-then-state-left c = search rules
 
-returns-2 : tie.Need-returns-2
+returns-then-state-left : tie.Need-returns-then-state-left
 unfolding left_given
-returns-2 c =
-    let s = c.before.before.before.before.before.before.before.before.before.before.before in
-    let left = c.before.before.before.left in
-    let give = c.before.before.before.before.before.give in
-    let at_given = c.before.before.before in
-    change_outside greatest_nodes s.args.card.now s.args.state.now s.requires.0 s.args.doing s.args.decision s.requires.2 s.requires.3 _ s.requires.1
-    _ _ _ (given at_given)
-    (λ z. sym (ap left_given left.given.1) ∙ give.ensures.1 (nodes_are s ∙ z)) c.if1.true
+returns-then-state-left c =
+    let give = c.give in
+    change_outside greatest_nodes c.args.card.now c.args.state.now c.requires.0 c.args.doing c.args.decision c.requires.2 c.requires.3 _ c.requires.1
+    _ _ _ (given c.before.before)
+    (λ z. sym (ap left_given c.in-Nodes.is) ∙ give.ensures.1 (nodes_are c.before.before.before.before.before.before.before.before ∙ z)) c.if-state-left.true
 
 plan-requires : tie.Need-plan-requires
 plan-requires c κs =
-    let s = c.before.before.before.before.before.before.before.before.before.before.before.before.before in
-    let at_given = c.before.before.before.before.before in
-    (s.requires.0, s.requires.2, s.requires.4, given at_given)
+    (c.requires.0, c.requires.2, c.requires.4, given c.before.before.before)
 
-slice-read-place : tie.Need-slice-read-place
-slice-read-place c = search rules
+bounds-state-93 : tie.Need-bounds-state-93
+bounds-state-93 c = search rules
 
 wide-requires-2 : tie.Need-wide-requires-2
 wide-requires-2 c κs = search rules
 
-store-word-requires : tie.Need-store-word-requires
-store-word-requires c κs =
-    let s = c.before.before.before.before.before.before.before.before.before.before.before.before.before.before.before.before.before.before.before.before in
-    let b = s.args.state.now in
-    let plan = c.before.before.before.before.before.before.plan in
-    let at_given = c.before.before.before.before.before.before.before.before.before.before.before.before in
+store_word-requires : tie.Need-store_word-requires
+store_word-requires c κs =
+    let b = c.args.state.now in
+    let plan = c.plan in
     let n = block_word b 0 in (
-      change_length_lem greatest_nodes s.args.card.now b s.requires.0 s.args.doing s.args.decision s.requires.2 s.requires.3 n s.requires.1 _ _ _ (given at_given)
+      change_length_lem greatest_nodes c.args.card.now b c.requires.0 c.args.doing c.args.decision c.requires.2 c.requires.3 n c.requires.1 _ _ _ (given c.before.before.before.before.before.before.before.before.before.before)
           plan.ensures.1 _ plan.ensures.0,
       omega arith,
       on_card_lem (c),
     )
 
-end-change-requires : tie.Need-end-change-requires
-end-change-requires c κs = search rules
+end_change-requires : tie.Need-end_change-requires
+end_change-requires c κs = search rules
 
-same-length-3 : tie.Need-same-length-3
-same-length-3 c = search rules
+shape_of-card-then-store_word : tie.Need-shape_of-card-then-store_word
+shape_of-card-then-store_word c = search rules
 
-same-length-4 : tie.Need-same-length-4
-same-length-4 c = search rules
+shape_of-state-then-store_word : tie.Need-shape_of-state-then-store_word
+shape_of-state-then-store_word c = search rules
 
-returns-3 : tie.Need-returns-3
-returns-3 c =
-    let at_given = c.before.before.before.before.before.before.before.before.before.before.before.before.before.before.before.before.before.before in
-    let s = at_given.before.before.before.before.before.before.before.before in
-    let b = s.args.state.now in
-    let plan = c.before.before.before.before.before.before.before.before.before.before.before.before.plan in
-    let wide2_call = c.before.before.before.before.before.before.wide2 in
-    let store = c.before.before.before.before.before.Store-word in
-    let at_on_card = c.before.before.before.before.before.before in
+returns-then-store_word : tie.Need-returns-then-store_word
+returns-then-store_word c =
+    let b = c.args.state.now in
+    let plan = c.plan in
+    let wide2_call = c.wide-2 in
+    let store = c.store_word in
     let n = block_word b 0 in
-    let p = plan.new.1.0 in
-    let long = change_length_lem greatest_nodes s.args.card.now b s.requires.0 s.args.doing s.args.decision s.requires.2 s.requires.3 n s.requires.1 _ _ _ (given at_given)
+    let p = plan.new.state in
+    let long = change_length_lem greatest_nodes c.args.card.now b c.requires.0 c.args.doing c.args.decision c.requires.2 c.requires.3 n c.requires.1 _ _ _ (given c.before.before.before.before.before.before.before.before.before.before.before.before.before.before.before.before)
     plan.ensures.1 _ plan.ensures.0 in
     λ line changes.
-    change_made greatest_nodes s.args.card.now b s.requires.0 s.args.doing s.args.decision s.requires.2 s.requires.3 n s.requires.1 _ _ _ (given at_given)
-    plan.ensures.1 _ plan.ensures.0 line changes wide2_call.result wide2_call.ensures (on_card_lem at_on_card) store.ensures.1.0
-    (store.ensures.1.1 ∙ played_on p long 1 (drop 1 (planned p)) (sym store.ensures.0 ∙ c.if2.true))
+    change_made greatest_nodes c.args.card.now b c.requires.0 c.args.doing c.args.decision c.requires.2 c.requires.3 n c.requires.1 _ _ _ (given c.before.before.before.before.before.before.before.before.before.before.before.before.before.before.before.before)
+    plan.ensures.1 _ plan.ensures.0 line changes wide2_call.result wide2_call.ensures (on_card_lem c.before.before.before.before.before.before) store.ensures.1.0
+    (store.ensures.1.1 ∙ played_on p long 1 (drop 1 (planned p)) (sym store.ensures.0 ∙ c.if-store_word.true))
 
-same-length-5 : tie.Need-same-length-5
-same-length-5 c = search rules
+shape_of-card : tie.Need-shape_of-card
+shape_of-card c = search rules
 
-same-length-6 : tie.Need-same-length-6
-same-length-6 c = search rules
+shape_of-state : tie.Need-shape_of-state
+shape_of-state c = search rules
 
-returns-4 : tie.Need-returns-4
-returns-4 c =
-    let at_given = c.before.before.before.before.before.before.before.before.before.before.before.before.before.before.before.before.before.before.before.before.before.before in
-    let s = at_given.before.before.before.before.before.before.before.before in
-    let b = s.args.state.now in
-    let plan = c.before.before.before.before.before.before.before.before.before.before.before.before.before.before.before.before.plan in
-    let wide2_call = c.before.before.before.before.before.before.before.before.before.before.wide2 in
-    let store = c.before.before.before.before.before.before.before.before.before.Store-word in
-    let at_on_card = c.before.before.before.before.before.before.before.before.before.before in
+returns : tie.Need-returns
+returns c =
+    let b = c.args.state.now in
+    let plan = c.plan in
+    let wide2_call = c.wide-2 in
+    let store = c.store_word in
     let n = block_word b 0 in
-    let p = plan.new.1.0 in
-    let long = change_length_lem greatest_nodes s.args.card.now b s.requires.0 s.args.doing s.args.decision s.requires.2 s.requires.3 n s.requires.1 _ _ _ (given at_given)
+    let p = plan.new.state in
+    let long = change_length_lem greatest_nodes c.args.card.now b c.requires.0 c.args.doing c.args.decision c.requires.2 c.requires.3 n c.requires.1 _ _ _ (given c.before.before.before.before.before.before.before.before.before.before.before.before.before.before.before.before.before.before.before.before)
     plan.ensures.1 _ plan.ensures.0 in
     λ line changes.
-    change_made greatest_nodes s.args.card.now b s.requires.0 s.args.doing s.args.decision s.requires.2 s.requires.3 n s.requires.1 _ _ _ (given at_given)
-    plan.ensures.1 _ plan.ensures.0 line changes wide2_call.result wide2_call.ensures (on_card_lem at_on_card) store.ensures.1.0
-    (ended p long 1 (drop 1 (planned p)) (sym store.ensures.0 ∙ c.before.before.before.before.if2.false) store.ensures.1.1 c.before.before.end-change.ensures)
+    change_made greatest_nodes c.args.card.now b c.requires.0 c.args.doing c.args.decision c.requires.2 c.requires.3 n c.requires.1 _ _ _ (given c.before.before.before.before.before.before.before.before.before.before.before.before.before.before.before.before.before.before.before.before)
+    plan.ensures.1 _ plan.ensures.0 line changes wide2_call.result wide2_call.ensures (on_card_lem c.before.before.before.before.before.before.before.before.before.before) store.ensures.1.0
+    (ended p long 1 (drop 1 (planned p)) (sym store.ensures.0 ∙ c.if-store_word.false) store.ensures.1.1 c.end_change.ensures)
 
 pub step_change_spec : {M : Type 1} → statement M
 step_change_spec =
     tie.close
     (tie.spec
-    sub-give
-    part-give-start
-    part-give-end
-    slice-reshared-read-wide
+    slice_bounds-give-count
+    slice_bounds-give-start
+    slice_bounds-give-end
+    slice_reshared_read-wide
     wide-requires
     give-requires
-    enum-known-left
-    enum_told
-    same_length
-    returns
-    slice-read-if1
-    same-length-2
-    returns-2
+    enum_known-left
+    enum_told-1
+    shape_of-state-in_default
+    returns-in_default
+    bounds-state-0
+    shape_of-state-then-state-left
+    returns-then-state-left
     plan-requires
-    slice-read-place
+    bounds-state-93
     wide-requires-2
-    store-word-requires
-    same-length-3
-    same-length-4
-    returns-3
-    end-change-requires
-    same-length-5
-    same-length-6
-    returns-4)
+    store_word-requires
+    shape_of-card-then-store_word
+    shape_of-state-then-store_word
+    returns-then-store_word
+    end_change-requires
+    shape_of-card
+    shape_of-state
+    returns)

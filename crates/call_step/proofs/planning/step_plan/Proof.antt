@@ -12,74 +12,66 @@ use borrow.Author.Rules.{rules}
 use Rattle.call_step.proofs.planning.step_plan.Statement.{statement}
 use Rattle.call_step.proofs.planning.step_plan.Tie as tie
 
-is_doing : (c : tie.After-head-in) → c.head_in.result.doing ≡ (memory_in c.before.before.before.before.args.state.now).doing
+is_doing : (c : tie.After-head_in-head) → c.head_in-head.result.doing ≡ (memory_in c.args.state.now).doing
 unfolding head_in memory_in
-is_doing c = ap (λ (h : State). h.doing) c.head_in.ensures
+is_doing c = ap (λ (h : State). h.doing) c.head_in-head.ensures
 
-is_held : (c : tie.After-held-by) → held_by (memory_in c.before.before.before.before.before.args.state.now).doing ≡ c.held_by.result
+is_held : (c : tie.After-held_by) → held_by (memory_in c.args.state.now).doing ≡ c.held_by.result
 is_held c = ap held_by (sym (is_doing c.before)) ∙ sym c.held_by.ensures
 
-head-in-requires : tie.Need-head-in-requires
-head-in-requires c κs = search rules
+head_in-head-requires : tie.Need-head_in-head-requires
+head_in-head-requires c κs = search rules
 
-held-by-requires : tie.Need-held-by-requires
-held-by-requires c κs = search rules
+held_by-requires : tie.Need-held_by-requires
+held_by-requires c κs = search rules
 
-enum-known-task : tie.Need-enum-known-task
-enum-known-task c = search rules
+enum_known-task : tie.Need-enum_known-task
+enum_known-task c = search rules
 
-step-task-requires : tie.Need-step-task-requires
-step-task-requires c κs =
-    let s = c.before.before.before.before.before.before.before.before.before.before in
-    let b = s.args.state.now in
-    let task = c.before.before.before.task in
-    let at_is_held = c.before.before.before.before.before in
-    let at_is_doing = c.before.before.before.before.before.before in
-    let holds = is_held at_is_held ∙ task.given.1 in
-    (s.requires.0, s.requires.1, is_doing at_is_doing, holds, none_left (memory_in b).doing _ (memory_in b).rest holds s.requires.4, s.requires.5)
+step_task-requires : tie.Need-step_task-requires
+step_task-requires c κs =
+    let b = c.args.state.now in
+    let holds = is_held c.before.before.before ∙ c.in-Task.is in
+    (c.requires.0, c.requires.1, is_doing c.before.before.before.before, holds, none_left (memory_in b).doing _ (memory_in b).rest holds c.requires.4, c.requires.5)
 
-same_length : tie.Need-same-length
-same_length c = search rules
+shape_of-state-in_default : tie.Need-shape_of-state-in_default
+shape_of-state-in_default c = search rules
+
+returns-in_default : tie.Need-returns-in_default
+unfolding memory_in
+returns-in_default c =
+    let card = c.args.card.now in
+    let b = c.args.state.now in
+    refused_on_lem (seen c.args.line card) b card 10
+    (ap (step_held c.args.line card (memory_in b)) (is_held c.before ∙ holds_nothing b c.requires.3 _ (is_held c.before) c.in_default.in_default-own.keys2)
+    ∙ idle_refused c.args.line card (memory_in b) c.requires.2)
+
+shape_of-card : tie.Need-shape_of-card
+shape_of-card c = search rules
+
+shape_of-state : tie.Need-shape_of-state
+shape_of-state c = search rules
 
 returns : tie.Need-returns
 unfolding memory_in
 returns c =
-    let s = c.before.before.before.before.before.before in
-    let card = s.args.card.now in
-    let b = s.args.state.now in
-    refused_on_lem (seen s.args.line card) b card 10
-    (ap (step_held s.args.line card (memory_in b)) (is_held c.before ∙ holds_nothing b s.requires.3 _ (is_held c.before) c.match.keys2)
-    ∙ idle_refused s.args.line card (memory_in b) s.requires.2)
-
-same-length-2 : tie.Need-same-length-2
-same-length-2 c = search rules
-
-same-length-3 : tie.Need-same-length-3
-same-length-3 c = search rules
-
-returns-2 : tie.Need-returns-2
-unfolding memory_in
-returns-2 c =
-    let s = c.before.before.before.before.before.before.before.before.before.before.before.before.before.before.before in
-    let card = s.args.card.now in
-    let b = s.args.state.now in
-    let task = c.before.before.before.before.before.before.before.before.task in
-    let step_task_lem = c.before.before.before.before.step-task in
-    let at_is_held = c.before.before.before.before.before.before.before.before.before.before in
+    let card = c.args.card.now in
+    let b = c.args.state.now in
+    let step_task_lem = c.step_task in
     let m = memory_in b in
-    let holds = is_held at_is_held ∙ task.given.1 in
-    as_made s.args.line card b (task_plans s.args.line card m s.requires.2 _ holds (none_left m.doing _ m.rest holds s.requires.4)) step_task_lem.ensures
+    let holds = is_held c.before.before.before.before.before.before.before.before ∙ c.in-Task.is in
+    as_made c.args.line card b (task_plans c.args.line card m c.requires.2 _ holds (none_left m.doing _ m.rest holds c.requires.4)) step_task_lem.ensures
 
 pub step_plan_spec : {M : Type 1} → statement M
 step_plan_spec =
     tie.close
     (tie.spec
-    head-in-requires
-    held-by-requires
-    enum-known-task
-    same_length
-    returns
-    step-task-requires
-    same-length-2
-    same-length-3
-    returns-2)
+    head_in-head-requires
+    held_by-requires
+    enum_known-task
+    shape_of-state-in_default
+    returns-in_default
+    step_task-requires
+    shape_of-card
+    shape_of-state
+    returns)

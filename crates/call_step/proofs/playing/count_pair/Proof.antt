@@ -10,83 +10,80 @@ use borrow.Author.Rules.{rules}
 use Rattle.call_step.proofs.playing.count_pair.Statement.{statement}
 use Rattle.call_step.proofs.playing.count_pair.Tie as tie
 
-slice-read-key : tie.Need-slice-read-key
-slice-read-key c = search rules
+bounds-state-3 : tie.Need-bounds-state-3
+bounds-state-3 c = search rules
 
-slice-read-match : tie.Need-slice-read-match
-slice-read-match c = search rules
+bounds-state-2 : tie.Need-bounds-state-2
+bounds-state-2 c = search rules
 
-sub-count-in : tie.Need-overflow-sub-count-in
-sub-count-in c = search rules
+slice_bounds-count_in-count : tie.Need-slice_bounds-count_in-count
+slice_bounds-count_in-count c = search rules
 
-part-count-in-start : tie.Need-slice-bounds-count-in-start
-part-count-in-start c = search rules
+slice_bounds-count_in-start : tie.Need-slice_bounds-count_in-start
+slice_bounds-count_in-start c = search rules
 
-part-count-in-end : tie.Need-slice-bounds-count-in-end
-part-count-in-end c = search rules
+slice_bounds-count_in-end : tie.Need-slice_bounds-count_in-end
+slice_bounds-count_in-end c = search rules
 
-count-in-requires : tie.Need-count-in-requires
-count-in-requires c κs = search rules
+count_in-requires : tie.Need-count_in-requires
+count_in-requires c κs = search rules
 
-sub-count-out : tie.Need-overflow-sub-count-out
-sub-count-out c = search rules
+slice_bounds-count_out-count : tie.Need-slice_bounds-count_out-count
+slice_bounds-count_out-count c = search rules
 
-part-count-out-start : tie.Need-slice-bounds-count-out-start
-part-count-out-start c = search rules
+slice_bounds-count_out-start : tie.Need-slice_bounds-count_out-start
+slice_bounds-count_out-start c = search rules
 
-part-count-out-end : tie.Need-slice-bounds-count-out-end
-part-count-out-end c = search rules
+slice_bounds-count_out-end : tie.Need-slice_bounds-count_out-end
+slice_bounds-count_out-end c = search rules
 
-count-out-requires : tie.Need-count-out-requires
-count-out-requires c κs = search rules
+count_out-requires : tie.Need-count_out-requires
+count_out-requires c κs = search rules
 
-same_length : tie.Need-same-length
-same_length c = search rules
+shape_of-state-in-2 : tie.Need-shape_of-state-in-2
+shape_of-state-in-2 c = search rules
 
-returns : tie.Need-returns
-returns c =
-    let s = c.before.before.before.before.before.before.before.before in
-    let b = s.args.state.now in
-    let put = c.before.before.count-in in
-    sym (over_placed b put.new.0 totals_at family_count (put.auto.0 ∙ part_length b totals_at family_count (omega (arith, s.requires))))
+returns-in-2 : tie.Need-returns-in-2
+returns-in-2 c =
+    let b = c.args.state.now in
+    let put = c.count_in in
+    sym (over_placed b put.new.totals totals_at family_count (put.auto.totals ∙ part_length b totals_at family_count (omega (arith, c.requires))))
     ∙ ap (totalled b) (put.ensures ∙ sym (counted_insert (block_word b 2) (block_word b 3) (block_word b 4) (part b totals_at family_count)
-    (omega (arith, c.before.before.before.before.match.keys1))))
+    (omega (arith, c.in-2.is))))
 
-same-length-2 : tie.Need-same-length-2
-same-length-2 c = search rules
+shape_of-state-in-3 : tie.Need-shape_of-state-in-3
+shape_of-state-in-3 c = search rules
 
-returns-2 : tie.Need-returns-2
-returns-2 c =
-    let s = c.before.before.before.before.before.before.before.before in
-    let b = s.args.state.now in
-    let put = c.before.before.count-out in
-    sym (over_placed b put.new.0 totals_at family_count (put.auto.0 ∙ part_length b totals_at family_count (omega (arith, s.requires))))
+returns-in-3 : tie.Need-returns-in-3
+returns-in-3 c =
+    let b = c.args.state.now in
+    let put = c.count_out in
+    sym (over_placed b put.new.totals totals_at family_count (put.auto.totals ∙ part_length b totals_at family_count (omega (arith, c.requires))))
     ∙ ap (totalled b) (put.ensures ∙ sym (counted_delete (block_word b 2) (block_word b 3) (block_word b 4) (part b totals_at family_count)
-    (omega (arith, c.before.before.before.before.match.keys2))))
+    (omega (arith, c.in-3.is))))
 
-returns-3 : tie.Need-returns-3
-returns-3 c =
-    let s = c.before.before.before.before in
-    let b = s.args.state.now in
-    sym (totals_again b s.requires)
-    ∙ ap (totalled b) (sym (counted_none (block_word b 2) (block_word b 3) (block_word b 4) (part b totals_at family_count) c.match.rest.0.1 c.match.rest.1))
+returns-in_default : tie.Need-returns-in_default
+returns-in_default c =
+    let b = c.args.state.now in
+    sym (totals_again b c.requires)
+    ∙ ap (totalled b) (sym (counted_none (block_word b 2) (block_word b 3) (block_word b 4) (part b totals_at family_count) c.in_default.in_default-own.rest.0.1 c.in_default.in_default-own.rest.1))
 
 pub count_pair_spec : {M : Type 1} → statement M
 count_pair_spec =
     tie.close
     (tie.spec
-    slice-read-key
-    slice-read-match
-    sub-count-in
-    part-count-in-start
-    part-count-in-end
-    count-in-requires
-    sub-count-out
-    part-count-out-start
-    part-count-out-end
-    count-out-requires
-    same_length
-    returns
-    same-length-2
-    returns-2
-    returns-3)
+    bounds-state-3
+    bounds-state-2
+    slice_bounds-count_in-count
+    slice_bounds-count_in-start
+    slice_bounds-count_in-end
+    count_in-requires
+    slice_bounds-count_out-count
+    slice_bounds-count_out-start
+    slice_bounds-count_out-end
+    count_out-requires
+    shape_of-state-in-2
+    returns-in-2
+    shape_of-state-in-3
+    returns-in-3
+    returns-in_default)

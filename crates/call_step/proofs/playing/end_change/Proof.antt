@@ -8,24 +8,24 @@ use borrow.Author.Rules.{rules}
 use Rattle.call_step.proofs.playing.end_change.Statement.{statement}
 use Rattle.call_step.proofs.playing.end_change.Tie as tie
 
-free-cut-requires : tie.Need-free-cut-requires
-free-cut-requires c κs = search rules
+free_cut-requires : tie.Need-free_cut-requires
+free_cut-requires c κs = search rules
 
-clear-cut-requires : tie.Need-clear-cut-requires
-clear-cut-requires c κs = search rules
+clear_cut-requires : tie.Need-clear_cut-requires
+clear_cut-requires c κs = search rules
 
 settle-requires : tie.Need-settle-requires
 settle-requires c κs = search rules
 
-same_length : tie.Need-same-length
-same_length c = search rules
+shape_of-state : tie.Need-shape_of-state
+shape_of-state c = search rules
 
 returns : tie.Need-returns
 returns c =
-    c.before.before.settle.ensures
+    c.settle.ensures
     ∙ ap settled_block
-    (c.before.before.before.before.before.before.clear-cut.ensures
-    ∙ ap (λ (x : List ℕ). over x 8 (0 ∷ 0 ∷ 0 ∷ [])) c.before.before.before.before.before.before.before.before.before.before.free-cut.ensures)
+    (c.clear_cut.ensures
+    ∙ ap (λ (x : List ℕ). over x 8 (0 ∷ 0 ∷ 0 ∷ [])) c.free_cut.ensures)
 
 pub end_change_spec : {M : Type 1} → statement M
-end_change_spec = tie.close (tie.spec free-cut-requires clear-cut-requires settle-requires same_length returns)
+end_change_spec = tie.close (tie.spec free_cut-requires clear_cut-requires settle-requires shape_of-state returns)

@@ -10,26 +10,25 @@ use borrow.Author.Rules.{rules}
 use Rattle.call_step.proofs.playing.finish.Statement.{statement}
 use Rattle.call_step.proofs.playing.finish.Tie as tie
 
-clear-task-requires : tie.Need-clear-task-requires
-clear-task-requires c κs = search rules
+clear_task-requires : tie.Need-clear_task-requires
+clear_task-requires c κs = search rules
 
-slice-write-state : tie.Need-slice-write-state
-slice-write-state c = omega (arith, c.before.before.clear-task.auto.0, c.before.before.before.before.before.requires)
+bounds-state-6 : tie.Need-bounds-state-6
+bounds-state-6 c = omega (arith, c.clear_task.auto.state, c.requires)
 
-slice-write-state-2 : tie.Need-slice-write-state-2
-slice-write-state-2 c = simp length-set (omega (arith, c.before.before.clear-task.auto.0, c.before.before.before.before.before.requires))
+bounds-state-7 : tie.Need-bounds-state-7
+bounds-state-7 c = simp length-set (omega (arith, c.clear_task.auto.state, c.requires))
 
-clear-cut-requires : tie.Need-clear-cut-requires
-clear-cut-requires c κs = simp length-set (c.before.before.before.clear-task.auto.0 ∙ c.before.before.before.before.before.before.requires)
+clear_cut-requires : tie.Need-clear_cut-requires
+clear_cut-requires c κs = simp length-set (c.clear_task.auto.state ∙ c.requires)
 
-same_length : tie.Need-same-length
-same_length c = c.before.before.clear-cut.auto.0 ∙ simp length-set c.before.before.before.before.before.before.clear-task.auto.0
+shape_of-state : tie.Need-shape_of-state
+shape_of-state c = c.clear_cut.auto.state ∙ simp length-set c.clear_task.auto.state
 
 returns : tie.Need-returns
 returns c =
-    let s = c.before.before.before.before.before.before.before.before.before in
-    c.before.before.clear-cut.ensures ∙ ap (λ (b : List ℕ). over (set (set b 6 0) 7 0) 8 (0 ∷ 0 ∷ 0 ∷ [])) c.before.before.before.before.before.before.clear-task.ensures
-    ∙ idled_stored s.args.state.now (omega (arith, s.requires))
+    c.clear_cut.ensures ∙ ap (λ (b : List ℕ). over (set (set b 6 0) 7 0) 8 (0 ∷ 0 ∷ 0 ∷ [])) c.clear_task.ensures
+    ∙ idled_stored c.args.state.now (omega (arith, c.requires))
 
 pub finish_spec : {M : Type 1} → statement M
-finish_spec = tie.close (tie.spec clear-task-requires slice-write-state slice-write-state-2 clear-cut-requires same_length returns)
+finish_spec = tie.close (tie.spec clear_task-requires bounds-state-6 bounds-state-7 clear_cut-requires shape_of-state returns)

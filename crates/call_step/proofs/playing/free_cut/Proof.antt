@@ -9,101 +9,97 @@ use borrow.Author.Rules.{rules}
 use Rattle.call_step.proofs.playing.free_cut.Statement.{statement}
 use Rattle.call_step.proofs.playing.free_cut.Tie as tie
 
-abbrev invariant-loop : tie.invariant-loop
-invariant-loop state₀ i₀ state i = Freeing state₀ state i
+abbrev invariant-loop-i : tie.invariant-loop-i
+invariant-loop-i state₀ i₀ state i = Freeing state₀ state i
 
-abbrev decreases-loop : tie.decreases-loop
-decreases-loop state₀ i₀ state i = 3 - i
+abbrev decreases-loop-i : tie.decreases-loop-i
+decreases-loop-i state₀ i₀ state i = 3 - i
 
-loop-holds : tie.Need-loop-init invariant-loop decreases-loop
-loop-holds c = let s = c.before in freeing_start s.args.state.now s.requires (λ i. omega (arith, c.slice-known.given i))
+loop-i-init : tie.Need-loop-i-init invariant-loop-i decreases-loop-i
+loop-i-init c = freeing_start c.args.state.now c.requires (λ i. omega (arith, c.slice_known-1.given i))
 
-add_wide : tie.Need-overflow-add-wide invariant-loop decreases-loop
-add_wide c = omega (arith, c.before.loop.invariant.within)
+overflow_add-i : tie.Need-overflow_add-i invariant-loop-i decreases-loop-i
+overflow_add-i c = omega (arith, c.loop-i.invariant.within)
 
-mul_wide : tie.Need-overflow-mul-wide invariant-loop decreases-loop
-mul_wide c = omega (arith, c.before.loop.invariant.within)
+offset_bounds-state-i : tie.Need-offset_bounds-state-i invariant-loop-i decreases-loop-i
+offset_bounds-state-i c = omega (arith, c.loop-i.invariant.within)
 
-slice-read-wide : tie.Need-slice-read-wide invariant-loop decreases-loop
-slice-read-wide c = omega (arith, c.before.before.loop.invariant.long, c.before.loop-test.true)
+bounds-state-i : tie.Need-bounds-state-i invariant-loop-i decreases-loop-i
+bounds-state-i c = omega (arith, c.loop-i.invariant.long, c.loop-i-test.true)
 
-wide-requires : tie.Need-wide-requires invariant-loop decreases-loop
-wide-requires c κs = search rules
+wide-m-requires : tie.Need-wide-m-requires invariant-loop-i decreases-loop-i
+wide-m-requires c κs = search rules
 
-same_length : tie.Need-same-length invariant-loop decreases-loop
-same_length c =
-    let s = c.before.before.before.before.before.before in
-    let loop_call = c.before.before.before.before.loop in
-    loop_call.invariant.long ∙ sym s.requires
+shape_of-state-then-m-eq0 : tie.Need-shape_of-state-then-m-eq0 invariant-loop-i decreases-loop-i
+shape_of-state-then-m-eq0 c =
+    let loop_call = c.loop-i in
+    loop_call.invariant.long ∙ sym c.requires
 
-returns : tie.Need-returns invariant-loop decreases-loop
-returns c =
-    let s = c.before.before.before.before.before.before in
-    let loop_call = c.before.before.before.before.loop in
-    let loop_test = c.before.before.before.loop-test in
+returns-then-m-eq0 : tie.Need-returns-then-m-eq0 invariant-loop-i decreases-loop-i
+returns-then-m-eq0 c =
+    let loop_call = c.loop-i in
+    let loop_test = c.loop-i-test in
     let l = loop_call in
-    freeing_zero s.args.state.now s.requires l.state l.i l.invariant loop_test.true (sym c.before.wide.ensures ∙ c.if1.true)
+    freeing_zero c.args.state.now c.requires l.state l.i l.invariant loop_test.true (sym c.wide-m.ensures ∙ c.if-m-eq0.true)
 
-sub-free-node : tie.Need-overflow-sub-free-node invariant-loop decreases-loop
-sub-free-node c = search rules
+slice_bounds-free_node-count : tie.Need-slice_bounds-free_node-count invariant-loop-i decreases-loop-i
+slice_bounds-free_node-count c = search rules
 
-part-free-node-start : tie.Need-slice-bounds-free-node-start invariant-loop decreases-loop
-part-free-node-start c = search rules
+slice_bounds-free_node-start : tie.Need-slice_bounds-free_node-start invariant-loop-i decreases-loop-i
+slice_bounds-free_node-start c = search rules
 
-part-free-node-end : tie.Need-slice-bounds-free-node-end invariant-loop decreases-loop
-part-free-node-end c = omega (arith, c.before.before.before.before.loop.invariant.long)
+slice_bounds-free_node-end : tie.Need-slice_bounds-free_node-end invariant-loop-i decreases-loop-i
+slice_bounds-free_node-end c = omega (arith, c.loop-i.invariant.long)
 
-free-node-requires : tie.Need-free-node-requires invariant-loop decreases-loop
-free-node-requires c κs =
-    let loop_call = c.before.before.before.before.before.loop in
+free_node-requires : tie.Need-free_node-requires invariant-loop-i decreases-loop-i
+free_node-requires c κs =
+    let loop_call = c.loop-i in
     free_span loop_call.state [] loop_call.invariant.long
 
-add-i : tie.Need-overflow-add-i invariant-loop decreases-loop
-add-i c = omega (arith, c.before.before.before.before.before.before.before.before.loop.invariant.within)
+overflow_add-i-in-loop-i : tie.Need-overflow_add-i-in-loop-i invariant-loop-i decreases-loop-i
+overflow_add-i-in-loop-i c = omega (arith, c.loop-i.invariant.within)
 
-loop-less : tie.Need-loop-smaller invariant-loop decreases-loop
-loop-less c = omega (arith, c.before.before.before.before.before.before.before.loop-test.true)
+loop-i-smaller : tie.Need-loop-i-smaller invariant-loop-i decreases-loop-i
+loop-i-smaller c = omega (arith, c.loop-i-test.true)
 
-loop-again : tie.Need-loop-preserved invariant-loop decreases-loop
-loop-again c =
-    let s = c.before.before.before.before.before.before.before.before.before.before in
-    let loop_call = c.before.before.before.before.before.before.before.before.loop in
-    let wide = c.before.before.before.before.before.wide in
-    let free_node = c.before.before.free-node in
-    let loop_test = c.before.before.before.before.before.before.before.loop-test in
-    let if1 = c.before.before.before.before.if1 in
+loop-i-preserved : tie.Need-loop-i-preserved invariant-loop-i decreases-loop-i
+loop-i-preserved c =
+    let loop_call = c.loop-i in
+    let wide = c.wide-m in
+    let free_node = c.free_node in
+    let loop_test = c.loop-i-test in
+    let if1 = c.if-m-eq0 in
     let l = loop_call in
-    freeing_more s.args.state.now s.requires l.state l.i l.invariant wide.result free_node.new.0 loop_test.true wide.ensures
-    if1.false free_node.auto.0 free_node.ensures (λ i. omega (arith, c.slice-known3.given i))
+    freeing_more c.args.state.now c.requires l.state l.i l.invariant wide.result free_node.new.free loop_test.true wide.ensures
+    if1.false free_node.auto.free free_node.ensures (λ i. omega (arith, c.slice_known-in-loop-i-2-1.given i))
 
-same-length-2 : tie.Need-same-length-2 invariant-loop decreases-loop
-same-length-2 c = let s = c.before.before.before in c.before.loop.invariant.long ∙ sym s.requires
+shape_of-state : tie.Need-shape_of-state invariant-loop-i decreases-loop-i
+shape_of-state c = c.loop-i.invariant.long ∙ sym c.requires
 
-returns-2 : tie.Need-returns-2 invariant-loop decreases-loop
-returns-2 c =
-    let s = c.before.before.before in
-    let l = c.before.loop in
-    freeing_end s.args.state.now s.requires l.state l.i l.invariant c.loop-test.false
+returns : tie.Need-returns invariant-loop-i decreases-loop-i
+returns c =
+    let l = c.loop-i in
+    freeing_end c.args.state.now c.requires l.state l.i l.invariant c.loop-i-test.false
 
 pub free_cut_spec : {M : Type 1} → statement M
 free_cut_spec =
     tie.close
     (tie.spec
-    invariant-loop
-    decreases-loop
-    loop-holds
-    add_wide
-    mul_wide
-    slice-read-wide
-    wide-requires
-    same_length
-    returns
-    sub-free-node
-    part-free-node-start
-    part-free-node-end
-    free-node-requires
-    add-i
-    loop-less
-    loop-again
-    same-length-2
-    returns-2)
+    invariant-loop-i
+    decreases-loop-i
+    loop-i-init
+    overflow_add-i
+    offset_bounds-state-i
+    bounds-state-i
+    wide-m-requires
+    shape_of-state-then-m-eq0
+    returns-then-m-eq0
+    slice_bounds-free_node-count
+    slice_bounds-free_node-start
+    slice_bounds-free_node-end
+    free_node-requires
+    overflow_add-i-in-loop-i
+    loop-i-smaller
+    loop-i-preserved
+    shape_of-state
+    returns)

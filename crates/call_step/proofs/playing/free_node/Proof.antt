@@ -9,19 +9,18 @@ use borrow.Author.Rules.{rules}
 use Rattle.call_step.proofs.playing.free_node.Statement.{statement}
 use Rattle.call_step.proofs.playing.free_node.Tie as tie
 
+returns-then-m-ge-CAPACITY : tie.Need-returns-then-m-ge-CAPACITY
+returns-then-m-ge-CAPACITY c =
+    sym (set_out (nodes_of c.args.free.now) c.args.m true (omega (arith, length_nodes c.args.free.now, c.requires, c.if-m-ge-CAPACITY.true)))
+
+put_in-requires : tie.Need-put_in-requires
+put_in-requires c κs = search rules
+
+shape_of-free : tie.Need-shape_of-free
+shape_of-free c = search rules
+
 returns : tie.Need-returns
-returns c =
-    let s = c.before.before in
-    sym (set_out (nodes_of s.args.free.now) s.args.m true (omega (arith, length_nodes s.args.free.now, s.requires, c.if1.true)))
-
-put-in-requires : tie.Need-put-in-requires
-put-in-requires c κs = search rules
-
-same_length : tie.Need-same-length
-same_length c = search rules
-
-returns-2 : tie.Need-returns-2
-returns-2 c = search rules
+returns c = search rules
 
 pub free_node_spec : {M : Type 1} → statement M
-free_node_spec = tie.close (tie.spec returns put-in-requires same_length returns-2)
+free_node_spec = tie.close (tie.spec returns-then-m-ge-CAPACITY put_in-requires shape_of-free returns)

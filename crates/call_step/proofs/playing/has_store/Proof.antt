@@ -12,45 +12,43 @@ use borrow.Author.Rules.{rules}
 use Rattle.call_step.proofs.playing.has_store.Statement.{statement}
 use Rattle.call_step.proofs.playing.has_store.Tie as tie
 
-shared-slice-read-doing : tie.Need-shared-slice-read-doing
-shared-slice-read-doing c = search rules
+bounds-state-2 : tie.Need-bounds-state-2
+bounds-state-2 c = search rules
 
-returns : tie.Need-returns
-returns c = let s = c.before.before.before in idle_stores _ (idle_none s.args.state.now c.if1.true)
+returns-then-doing-eq-IDLE : tie.Need-returns-then-doing-eq-IDLE
+returns-then-doing-eq-IDLE c = idle_stores _ (idle_none c.args.state.now c.if-doing-eq-IDLE.true)
 
-returns-2 : tie.Need-returns-2
-returns-2 c =
-    let s = c.before.before.before.before in
-    let b = s.args.state.now in
-    idle_stores _ (sym (lt-ltb 4 (block_word b 2) c.if2.true) ∙ idle_other b c.before.if1.false)
+returns-then-doing-gt-REPAIRING : tie.Need-returns-then-doing-gt-REPAIRING
+returns-then-doing-gt-REPAIRING c =
+    let b = c.args.state.now in
+    idle_stores _ (sym (lt-ltb 4 (block_word b 2) c.if-doing-gt-REPAIRING.true) ∙ idle_other b c.if-doing-eq-IDLE.false)
 
-shared-slice-read-wide : tie.Need-shared-slice-read-wide
-shared-slice-read-wide c = search rules
+bounds-state-6 : tie.Need-bounds-state-6
+bounds-state-6 c = search rules
 
 wide-requires : tie.Need-wide-requires
 wide-requires c κs = search rules
 
-in-hand-requires : tie.Need-in-hand-requires
-in-hand-requires c κs = search rules
+in_hand-requires : tie.Need-in_hand-requires
+in_hand-requires c κs = search rules
 
-returns-3 : tie.Need-returns-3
+returns : tie.Need-returns
 unfolding memory_in
-returns-3 c =
-    let s = c.before.before.before.before.before.before.before in
-    let if1 = c.before.before.before.before.if1 in
-    let if2 = c.before.before.before.if2 in
-    let b = s.args.state.now in
-    c.in-hand.ensures ∙ ap (λ (k : ℕ). more_to_store (drop k (planned b))) c.before.wide.ensures
+returns c =
+    let if1 = c.if-doing-eq-IDLE in
+    let if2 = c.if-doing-gt-REPAIRING in
+    let b = c.args.state.now in
+    c.in_hand.ensures ∙ ap (λ (k : ℕ). more_to_store (drop k (planned b))) c.wide.ensures
     ∙ held_stores _ (sym (idle_other b if1.false) ∙ le-ltb 4 (block_word b 2) if2.false)
 
 pub has_store_spec : {M : Type 1} → statement M
 has_store_spec =
     tie.close
     (tie.spec
-    shared-slice-read-doing
-    returns
-    returns-2
-    shared-slice-read-wide
+    bounds-state-2
+    returns-then-doing-eq-IDLE
+    returns-then-doing-gt-REPAIRING
+    bounds-state-6
     wide-requires
-    in-hand-requires
-    returns-3)
+    in_hand-requires
+    returns)

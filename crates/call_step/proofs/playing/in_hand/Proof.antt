@@ -6,20 +6,19 @@ use borrow.Author.Rules.{rules}
 use Rattle.call_step.proofs.playing.in_hand.Statement.{statement}
 use Rattle.call_step.proofs.playing.in_hand.Tie as tie
 
-returns : tie.Need-returns
-returns c = let s = c.before.before in sym (plan_full s.args.state.now s.requires s.args.made c.if1.true)
+returns-then-made-ge-PLAN_SIZE : tie.Need-returns-then-made-ge-PLAN_SIZE
+returns-then-made-ge-PLAN_SIZE c = sym (plan_full c.args.state.now c.requires c.args.made c.if-made-ge-PLAN_SIZE.true)
 
-shared-slice-read-wide : tie.Need-shared-slice-read-wide
-shared-slice-read-wide c = search rules
+bounds-state-7 : tie.Need-bounds-state-7
+bounds-state-7 c = search rules
 
 wide-requires : tie.Need-wide-requires
 wide-requires c κs = search rules
 
-returns-2 : tie.Need-returns-2
-returns-2 c =
-    let s = c.before.before.before.before in
-    let if1 = c.before.before.if1 in
-    ap (ltb s.args.made) c.wide.ensures ∙ sym (plan_test s.args.state.now s.requires s.args.made if1.false)
+returns : tie.Need-returns
+returns c =
+    let if1 = c.if-made-ge-PLAN_SIZE in
+    ap (ltb c.args.made) c.wide.ensures ∙ sym (plan_test c.args.state.now c.requires c.args.made if1.false)
 
 pub in_hand_spec : {M : Type 1} → statement M
-in_hand_spec = tie.close (tie.spec returns shared-slice-read-wide wide-requires returns-2)
+in_hand_spec = tie.close (tie.spec returns-then-made-ge-PLAN_SIZE bounds-state-7 wide-requires returns)

@@ -7,29 +7,27 @@ use borrow.Author.Rules.{rules}
 use Rattle.call_step.proofs.playing.settle.Statement.{statement}
 use Rattle.call_step.proofs.playing.settle.Tie as tie
 
-slice-read-if1 : tie.Need-slice-read-if1
-slice-read-if1 c = search rules
+bounds-state-5 : tie.Need-bounds-state-5
+bounds-state-5 c = search rules
+
+returns-then-state-ne-IN_HAND : tie.Need-returns-then-state-ne-IN_HAND
+returns-then-state-ne-IN_HAND c = settled_other c.args.state.now c.requires c.if-state-ne-IN_HAND.true
+
+bounds-state-5-2 : tie.Need-bounds-state-5-2
+bounds-state-5-2 c = search rules
+
+count_pair-requires : tie.Need-count_pair-requires
+count_pair-requires c κs = search rules
+
+shape_of-state : tie.Need-shape_of-state
+shape_of-state c =
+    c.count_pair.auto.state ∙ length-set c.args.state.now 5 2
 
 returns : tie.Need-returns
-returns c = let s = c.before.before.before in settled_other s.args.state.now s.requires c.if1.true
-
-slice-write-state : tie.Need-slice-write-state
-slice-write-state c = search rules
-
-count-pair-requires : tie.Need-count-pair-requires
-count-pair-requires c κs = search rules
-
-same_length : tie.Need-same-length
-same_length c =
-    let s = c.before.before.before.before.before.before.before in
-    c.before.before.count-pair.auto.0 ∙ length-set s.args.state.now 5 2
-
-returns-2 : tie.Need-returns-2
-returns-2 c =
-    let s = c.before.before.before.before.before.before.before in
-    c.before.before.count-pair.ensures ∙ settled_hand s.args.state.now (omega (arith, s.requires)) c.before.before.before.before.if1.false
+returns c =
+    c.count_pair.ensures ∙ settled_hand c.args.state.now (omega (arith, c.requires)) c.if-state-ne-IN_HAND.false
 
 pub settle_spec : {M : Type 1} → statement M
 settle_spec =
     tie.close
-    (tie.spec slice-read-if1 returns slice-write-state count-pair-requires same_length returns-2)
+    (tie.spec bounds-state-5 returns-then-state-ne-IN_HAND bounds-state-5-2 count_pair-requires shape_of-state returns)

@@ -11,61 +11,60 @@ use borrow.Author.Rules.{rules}
 use Rattle.call_step.proofs.playing.store_word.Statement.{statement}
 use Rattle.call_step.proofs.playing.store_word.Tie as tie
 
-add-card : tie.Need-overflow-add-card
-add-card c = search rules
+overflow_add-card : tie.Need-overflow_add-card
+overflow_add-card c = search rules
 
-mul-card : tie.Need-overflow-mul-card
-mul-card c = search rules
+offset_bounds-state-made : tie.Need-offset_bounds-state-made
+offset_bounds-state-made c = search rules
 
-slice-read-card : tie.Need-slice-read-card
-slice-read-card c = search rules
+bounds-state-made : tie.Need-bounds-state-made
+bounds-state-made c = search rules
 
-mul-card-2 : tie.Need-overflow-mul-card-2
-mul-card-2 c = search rules
+offset_bounds-card-at : tie.Need-offset_bounds-card-at
+offset_bounds-card-at c = search rules
 
-slice-write-card : tie.Need-slice-write-card
-slice-write-card c = search rules
+bounds-card-at : tie.Need-bounds-card-at
+bounds-card-at c = search rules
 
-add-next : tie.Need-overflow-add-next
-add-next c = search rules
+overflow_add-next : tie.Need-overflow_add-next
+overflow_add-next c = search rules
 
-cast-state : tie.Need-overflow-cast-state
-cast-state c = search rules
+overflow_cast-state : tie.Need-overflow_cast-state
+overflow_cast-state c = search rules
 
-slice-write-state : tie.Need-slice-write-state
-slice-write-state c = search rules
+bounds-state-6 : tie.Need-bounds-state-6
+bounds-state-6 c = search rules
 
-in-hand-requires : tie.Need-in-hand-requires
-in-hand-requires c κs = search rules
+in_hand-requires : tie.Need-in_hand-requires
+in_hand-requires c κs = search rules
 
-same_length : tie.Need-same-length
-same_length c = search rules
+shape_of-card : tie.Need-shape_of-card
+shape_of-card c = search rules
 
-same-length-2 : tie.Need-same-length-2
-same-length-2 c = search rules
+shape_of-state : tie.Need-shape_of-state
+shape_of-state c = search rules
 
 returns : tie.Need-returns
 returns c =
-    let s = c.before.before.before.before.before in
-    let b = s.args.state.now in
-    let k = s.args.made + 1 in (
-      c.in-hand.ensures ∙ ap (λ (l : List Store). more_to_store (drop k l)) (made_planned b s.requires.0 k),
-      (ap (set s.args.card.now s.args.at) (sym (part_word b values_at 73 s.args.made s.requires.1)), refl),
+    let b = c.args.state.now in
+    let k = c.args.made + 1 in (
+      c.in_hand.ensures ∙ ap (λ (l : List Store). more_to_store (drop k l)) (made_planned b c.requires.0 k),
+      (ap (set c.args.card.now c.args.at) (sym (part_word b values_at 73 c.args.made c.requires.1)), refl),
     )
 
 pub store_word_spec : {M : Type 1} → statement M
 store_word_spec =
     tie.close
     (tie.spec
-    add-card
-    mul-card
-    slice-read-card
-    mul-card-2
-    slice-write-card
-    add-next
-    cast-state
-    slice-write-state
-    in-hand-requires
-    same_length
-    same-length-2
+    overflow_add-card
+    offset_bounds-state-made
+    bounds-state-made
+    offset_bounds-card-at
+    bounds-card-at
+    overflow_add-next
+    overflow_cast-state
+    bounds-state-6
+    in_hand-requires
+    shape_of-card
+    shape_of-state
     returns)
