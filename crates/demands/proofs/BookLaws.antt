@@ -138,7 +138,7 @@ pub changes_remove : (k x : ℕ) (a b : List (ℕ × ℕ)) → k < key_limit →
 changes_remove k x a b s o h = record { enters = enters_remove k x a b o h; by_one = (x, h); key_small = s }
 
 pub changes_from : {u : Update} {a a' b : List (ℕ × ℕ)} → Same a a' → Changes u a b → Changes u a' b
-changes_from {u} {a} {a'} {b} s e = record { enters = enters_from s e.enters; by_one = at u e.by_one; key_small = e.key-small }
+changes_from {u} {a} {a'} {b} s e = record { enters = enters_from s e.enters; by_one = at u e.by_one; key_small = e.key_small }
   where
     at : (u : Update) → ByOne u a b → ByOne u a' b
     at (put k v) h = λ w. omega (arith, h w, s.totals w)

@@ -156,7 +156,7 @@ module _ (greatest : ℕ) (final : Answer) (most : ℕ) (w : World (ration_table
                 steps_in more,
                 k,
                 rw e (run_left greatest final m then_left.0 rest
-                    (happens (ration_table greatest) step w) then_left.2 more v (omega (arith, k, h))).2.is-left,
+                    (happens (ration_table greatest) step w) then_left.2 more v (omega (arith, k, h))).2.is_left,
               )
 
           last : (qs : List Event) → LeftUncut (ration_table greatest) qs w → 0 < steps_in qs → steps_in qs ≤ suc (length rest)
@@ -279,19 +279,19 @@ repair_next : (greatest : ℕ) (final : Answer) (most : ℕ) (w : World (ration_
 unfolding reply_to
 repair_next greatest final most w x k (exact, turn) later = at turn
   where
-    v : Covered greatest w x.book-now
+    v : Covered greatest w x.book_now
     v = x.covered
 
     between : Between (ration_table greatest) w v.inv.tree
     between =
         record {
           sound = table_well_formed greatest v.inv.table;
-          free_exact = subst (λ y. Exact y w.state.free v.inv.tree) (sym (nodes_same greatest (only v.size) v.steps w x.book-now v.inv)) exact;
+          free_exact = subst (λ y. Exact y w.state.free v.inv.tree) (sym (nodes_same greatest (only v.size) v.steps w x.book_now v.inv)) exact;
         }
 
     at : ((table_violations v.inv.tree ≡ 0) × ((step_of greatest 1 w.card w.state).answer ≡ v.inv.due))
         ⊎ RepairNext greatest w.card v.size w.state → Repairs (ration_table greatest) (step_reply final) w
-    at (inl (z, a)) = done v.inv.tree between z (ap step_reply (a ∙ x.is-due))
+    at (inl (z, a)) = done v.inv.tree between z (ap step_reply (a ∙ x.is_due))
     at (inr q) =
         let r = repair_by_rule w.card v.size q.key q.planned in
         let m = memory v.size q.then_free q.then_last w.state.depth w.state.totals w.state.doing [] q.out in
@@ -299,8 +299,8 @@ repair_next greatest final most w x k (exact, turn) later = at turn
         (change_made greatest final most w x m q.first q.rest q.first_made q.short r.given q.out r.in_turn r.left
         (r.given_last ∙ last_same w.state.last r.given) refl (cut_marked q.out q.then_free))
         (λ qs u n. let l = all_left greatest final most w x m q.first q.rest q.first_made qs u n in
-        later l.0 (run (ration_table greatest) qs w) l.1 l.2.nears (ap (λ (y : Memory). y.rest) l.2.is-left ∙ advanced_none m)
-        (subst Begun (sym (ap (λ (y : Memory). y.doing) l.2.is-left ∙ advanced_doing m)) (begun_settled k)))
+        later l.0 (run (ration_table greatest) qs w) l.1 l.2.nears (ap (λ (y : Memory). y.rest) l.2.is_left ∙ advanced_none m)
+        (subst Begun (sym (ap (λ (y : Memory). y.doing) l.2.is_left ∙ advanced_doing m)) (begun_settled k)))
 
 -- "Repairs go on until balanced": as many changes as there are steps left, at most
 pub repairs_by_rules : (greatest : ℕ) (final : Answer) (bound most : ℕ) (w : World (ration_table greatest)) → most < bound → Nears greatest final most w → w.state.rest ≡ []
@@ -325,16 +325,16 @@ module _ (greatest : ℕ) (final : Answer) (most : ℕ) (w : World (ration_table
   where
     not_refused : (r : ℕ) → step_of greatest 1 w.card w.state ≡ step_refused r w.card w.state → ⊥
     unfolding step_refused
-    not_refused r e = let v = x.covered in work_not_refused greatest (only v.size) v.steps w x.book-now v.inv busy r (ap (λ y. y.answer) e)
+    not_refused r e = let v = x.covered in work_not_refused greatest (only v.size) v.steps w x.book_now v.inv busy r (ap (λ y. y.answer) e)
 
     ends_due : (a : Answer) → Final a → step_of greatest 1 w.card w.state ≡ step_final a w.card w.state → a ≡ final
     unfolding step_final
     ends_due a f e =
         let v = x.covered in
-        let i = loosen greatest (only v.size) v.steps (suc v.steps) w x.book-now (omega arith) v.inv in
-        let q = kept_step greatest (only v.size) v.steps w x.book-now i in
+        let i = loosen greatest (only v.size) v.steps (suc v.steps) w x.book_now (omega arith) v.inv in
+        let q = kept_step greatest (only v.size) v.steps w x.book_now i in
         right_final (subst (λ y. Right y i.due) (ap (λ y. y.answer) e) q.1) (final_counts a f)
-        ∙ loosen_due greatest (only v.size) v.steps (suc v.steps) w x.book-now (omega arith) v.inv ∙ x.is-due
+        ∙ loosen_due greatest (only v.size) v.steps (suc v.steps) w x.book_now (omega arith) v.inv ∙ x.is_due
 
     pub first_by_rules : (f : FirstChange) → step_of greatest 1 w.card w.state ≡ step_begin w.card w.state f → Final f.final
         → Storing f.preparation → (f.preparation ≡ balanced → f.final ≡ final → Nothing)
@@ -370,8 +370,8 @@ module _ (greatest : ℕ) (final : Answer) (most : ℕ) (w : World (ration_table
                 r.0.in_turn r.0.left (r.0.given_last ∙ last_same w.state.last r.0.given) refl (cut_marked out fewer))
                 (λ qs u n. let l = all_left greatest final most w x m s rest first qs u n in
                 repairs_by_rules greatest final (suc l.0) l.0 (run (ration_table greatest) qs w) (omega arith) l.2.nears
-                (ap (λ (y : Memory). y.rest) l.2.is-left ∙ advanced_none m)
-                (subst Begun (sym (ap (λ (y : Memory). y.doing) l.2.is-left ∙ advanced_doing m)) (begun_settled r.1)))
+                (ap (λ (y : Memory). y.rest) l.2.is_left ∙ advanced_none m)
+                (subst Begun (sym (ap (λ (y : Memory). y.doing) l.2.is_left ∙ advanced_doing m)) (begun_settled r.1)))
 
 -- where an update stands that has just been started
 pub put_turns : (greatest : ℕ) {c : List ℕ} {n : ℕ} {t goal : Tree} {steps : ℕ} {m : Memory} {h : Hand} {due : Answer} (key value : ℕ) → Table greatest c n t

@@ -194,7 +194,7 @@ module _ (greatest : ℕ) (w : World (ration_table greatest)) (b : Book) (v : Co
   rests_are : Resting (ration_table greatest) w.state → Rests (ration_table greatest) greatest w b.held
   rests_are q =
       let r = rests_now (is_idle_lem w.state.doing (work_idle w.state.doing q)) in
-      record { right = rests_right greatest r; levels = r.levels; free_exact = r.free_exact; three_kept = r.three-kept }
+      record { right = rests_right greatest r; levels = r.levels; free_exact = r.free_exact; three_kept = r.three_kept }
 
   pub is_dictionary : Dictionary (ration_table greatest) greatest w b
   is_dictionary = record { finds = finds_right; inserts = inserts_right; deletes = deletes_right; repairs = opening_by_rules greatest w b v; steps = steps_right; rests = rests_are }

@@ -66,7 +66,7 @@ module _ (greatest : ℕ) {final : Reply} where
   each_stores {w = w} c (insert key value ∷ qs) u h = let e = insert_same greatest key value w u.0 in rw e (each_stores c qs (rw e at u.1) h)
   each_stores {w = w} c (delete key ∷ qs) u h = let e = delete_same greatest key w u.0 in rw e (each_stores c qs (rw e at u.1) h)
   each_stores (answers_now a) (step ∷ qs) u h = absurd (omega arith)
-  each_stores (stores_first s c) (step ∷ qs) u h = each_stores c qs u.1 (omega arith)
+  each_stores (stores_first {k = k} s c) (step ∷ qs) u h = each_stores {k = k} c qs u.1 (omega arith)
   each_stores c (cut ∷ qs) u h = absurd u.0
 
   pub then_answers : {k : ℕ} {w : World (ration_table greatest)} → Counted greatest final k w → (qs : List Event)
@@ -78,7 +78,7 @@ module _ (greatest : ℕ) {final : Reply} where
   then_answers {w = w} c (insert key value ∷ qs) u h = let e = insert_same greatest key value w u.0 in rw e (then_answers c qs (rw e at u.1) h)
   then_answers {w = w} c (delete key ∷ qs) u h = let e = delete_same greatest key w u.0 in rw e (then_answers c qs (rw e at u.1) h)
   then_answers (answers_now a) (step ∷ qs) u h = absurd (omega arith)
-  then_answers (stores_first s c) (step ∷ qs) u h = then_answers c qs u.1 (omega arith)
+  then_answers (stores_first {k = k} s c) (step ∷ qs) u h = then_answers {k = k} c qs u.1 (omega arith)
   then_answers c (cut ∷ qs) u h = absurd u.0
 
 pub work_not_refused : (greatest : ℕ) (line : Line) (steps : ℕ) (w : World (ration_table greatest)) (b : Book) → Inv greatest line steps w b

@@ -42,24 +42,24 @@ pub nearer : (greatest : ℕ) (final : Answer) (most : ℕ) (w : World (ration_t
 unfolding step_refused
 nearer greatest final zero w x e = absurd (never (idle_refused greatest w.card w.state rested))
   where
-    v : Covered greatest w x.book-now
+    v : Covered greatest w x.book_now
     v = x.covered
 
     rested : w.state.doing ≡ Idle
-    rested = (at_rest greatest (only v.size) v.steps w x.book-now (omega (arith, x.soon)) v.inv).0
+    rested = (at_rest greatest (only v.size) v.steps w x.book_now (omega (arith, x.soon)) v.inv).0
 
     never : ((r : ℕ) × (step_of greatest 1 w.card w.state ≡ step_refused r w.card w.state)) → ⊥
     never (r, q) = let y : ◌≡◌ {A = Answer} (WasRefused r) (Stored e.0) = sym (ap (λ z. z.answer) q) ∙ e.1 in impossible (cc)
 nearer greatest final (suc few) w x e =
     let v = x.covered in
-    let q = kept_step greatest (only v.size) few w x.book-now (loosen greatest (only v.size) v.steps (suc few) w x.book-now x.soon v.inv) in (
+    let q = kept_step greatest (only v.size) few w x.book_now (loosen greatest (only v.size) v.steps (suc few) w x.book_now x.soon v.inv) in (
       few,
       refl,
       record {
-        book_now = feed (told (ration_table greatest) step w) x.book-now;
+        book_now = feed (told (ration_table greatest) step w) x.book_now;
         covered = record { size = v.size; steps = few; inv = q.0.0 };
         soon = omega arith;
-        is_due = q.0.2 ∙ loosen_due greatest (only v.size) v.steps (suc few) w x.book-now x.soon v.inv ∙ x.is-due;
+        is_due = q.0.2 ∙ loosen_due greatest (only v.size) v.steps (suc few) w x.book_now x.soon v.inv ∙ x.is_due;
       },
     )
 
@@ -123,7 +123,7 @@ module _ (greatest : ℕ) (final : Answer) (m : Memory) where
   one_less : {most : ℕ} {w : World (ration_table greatest)} (s : Store) (rest : List Store) → Left most (s ∷ rest) w
       → (few : ℕ) × (most ≡ suc few) × Left few rest (happens (ration_table greatest) step w)
   one_less {most} {w} s rest x =
-      let e = makes_next greatest w x.nears.book-now x.nears.covered m s rest x.is-left in
+      let e = makes_next greatest w x.nears.book_now x.nears.covered m s rest x.is_left in
       let q = nearer greatest final most w x.nears (s.0, ap (λ z. z.answer) e) in
       (q.0, q.1, record { nears = q.2; is_left = (stored_step w s rest e).1 })
 
@@ -144,7 +144,7 @@ module _ (greatest : ℕ) (final : Answer) (m : Memory) where
 
   next_stored : (most : ℕ) (ss : List Store) (w : World (ration_table greatest)) → Left most ss w → 0 < length ss → StoresNow (ration_table greatest) w (store_at ss 0)
   next_stored most [] w x h = absurd (omega arith)
-  next_stored most (s ∷ rest) w x h = (stored_step w s rest (makes_next greatest w x.nears.book-now x.nears.covered m s rest x.is-left)).0
+  next_stored most (s ∷ rest) w x h = (stored_step w s rest (makes_next greatest w x.nears.book_now x.nears.covered m s rest x.is_left)).0
 
   drop_more : (ss : List Store) (k : ℕ) → k < length ss → (0 < length (drop k ss)) × (store_at (drop k ss) 0 ≡ store_at ss k)
   drop_more [] k h = absurd (omega arith)

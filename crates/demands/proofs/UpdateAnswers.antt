@@ -44,14 +44,14 @@ module _ (greatest : ℕ) {n steps : ℕ} {w : World (ration_table greatest)} {b
   unfolding happens
   insert_stores_by_depth value e t sound h level =
       let q = kept_insert greatest n steps w b i key value high in
-      work_stores greatest q.1 (q.2.busy e) (dictionary_answer (lookup key b.held)) (q.2.new-due e) (update_stores_at h) (q.2.steps-left e t sound h level)
+      work_stores greatest q.1 (q.2.busy e) (dictionary_answer (lookup key b.held)) (q.2.new_due e) (update_stores_at h) (q.2.steps_left e t sound h level)
 
   pub delete_stores_by_depth : (delete_of greatest 1 w.card w.state key).begun ≡ Started → (t : Tree) → WellFormed w.card t → (h : ℕ) → Height h t
       → Stores greatest (update_stores_at h) (step_reply (dictionary_answer (lookup key b.held))) (happens (ration_table greatest) (delete key) w)
   unfolding happens
   delete_stores_by_depth e t sound h level =
       let q = kept_delete greatest (only n) steps w b i key high in
-      work_stores greatest q.1 (q.2.busy e) (dictionary_answer (lookup key b.held)) (q.2.new-due e) (update_stores_at h) (q.2.steps-left e t sound h level)
+      work_stores greatest q.1 (q.2.busy e) (dictionary_answer (lookup key b.held)) (q.2.new_due e) (update_stores_at h) (q.2.steps_left e t sound h level)
 
   -- "With 600 nodes a balanced tree has at most 8 internal levels"
   within_bound : {final : Reply} {v : World (ration_table greatest)} → w.state.doing ≡ Idle
@@ -64,8 +64,8 @@ module _ (greatest : ℕ) {n steps : ℕ} {w : World (ration_table greatest)} {b
 
   pub insert_stores : (value : ℕ) → (insert_of greatest 1 w.card w.state key value).begun ≡ Started
       → Stores greatest (most_stores greatest) (step_reply (dictionary_answer (lookup key b.held))) (happens (ration_table greatest) (insert key value) w)
-  insert_stores value e = within_bound ((kept_insert greatest n steps w b i key value high).2.idle-before e) (insert_stores_by_depth value e)
+  insert_stores value e = within_bound ((kept_insert greatest n steps w b i key value high).2.idle_before e) (insert_stores_by_depth value e)
 
   pub delete_stores : (delete_of greatest 1 w.card w.state key).begun ≡ Started
       → Stores greatest (most_stores greatest) (step_reply (dictionary_answer (lookup key b.held))) (happens (ration_table greatest) (delete key) w)
-  delete_stores e = within_bound ((kept_delete greatest (only n) steps w b i key high).2.idle-before e) (delete_stores_by_depth e)
+  delete_stores e = within_bound ((kept_delete greatest (only n) steps w b i key high).2.idle_before e) (delete_stores_by_depth e)

@@ -102,7 +102,7 @@ module _ (greatest : ℕ) (w : World (ration_table greatest)) (b : Book) (v : Co
   insert_nears key value high e =
       let q = kept_insert greatest v.size v.steps w b v.inv key value high in (
         q.0,
-        record { book_now = feed (told (ration_table greatest) (insert key value) w) b; covered = record { size = v.size; steps = q.0; inv = q.1 }; soon = omega arith; is_due = q.2.new-due e },
+        record { book_now = feed (told (ration_table greatest) (insert key value) w) b; covered = record { size = v.size; steps = q.0; inv = q.1 }; soon = omega arith; is_due = q.2.new_due e },
         q.2.busy e,
       )
 
@@ -113,7 +113,7 @@ module _ (greatest : ℕ) (w : World (ration_table greatest)) (b : Book) (v : Co
   delete_nears key high e =
       let q = kept_delete greatest (only v.size) v.steps w b v.inv key high in (
         q.0,
-        record { book_now = feed (told (ration_table greatest) (delete key) w) b; covered = record { size = v.size; steps = q.0; inv = q.1 }; soon = omega arith; is_due = q.2.new-due e },
+        record { book_now = feed (told (ration_table greatest) (delete key) w) b; covered = record { size = v.size; steps = q.0; inv = q.1 }; soon = omega arith; is_due = q.2.new_due e },
         q.2.busy e,
       )
 
@@ -185,7 +185,7 @@ module _ (greatest : ℕ) (w : World (ration_table greatest)) (b : Book) (v : Co
       let m = (insert_of greatest 1 w.card w.state key value).memory in
       let d : m.doing ≡ Inserting key value NotBegun = started_doing greatest w.card w.state (Inserting key value NotBegun) (start_room (seen 1 w.card) key (room_of w.state)) key e in
       let n : nodes_on w.card ≡ u.size = covered_nodes greatest u ∙ nodes_same greatest (only u.size) u.steps (happens (ration_table greatest) (insert key value) w)
-      q.1.book-now u.inv in
+      q.1.book_now u.inv in
       first_by_rules greatest (dictionary_answer (lookup key b.held)) q.0 (happens (ration_table greatest) (insert key value) w) q.1 q.2
       ((a : ℕ) × (lookup key b.held ≡ some a)) (InsertRule w.card key value) (λ given out ss r. insert_short r)
       (next_change w.card u.size m.free m.last (Inserting key value NotBegun) (PutIn key value))
@@ -206,7 +206,7 @@ module _ (greatest : ℕ) (w : World (ration_table greatest)) (b : Book) (v : Co
       let u = q.1.covered in
       let m = (delete_of greatest 1 w.card w.state key).memory in
       let d : m.doing ≡ Deleting key NotBegun 0 = started_doing greatest w.card w.state (Deleting key NotBegun 0) (λ l. true) key e in
-      let n : nodes_on w.card ≡ u.size = covered_nodes greatest u ∙ nodes_same greatest (only u.size) u.steps (happens (ration_table greatest) (delete key) w) q.1.book-now u.inv in
+      let n : nodes_on w.card ≡ u.size = covered_nodes greatest u ∙ nodes_same greatest (only u.size) u.steps (happens (ration_table greatest) (delete key) w) q.1.book_now u.inv in
       first_by_rules greatest (dictionary_answer (lookup key b.held)) q.0 (happens (ration_table greatest) (delete key) w) q.1 q.2
       (lookup key b.held ≡ none) (DeleteRule w.card key) (λ given out ss r. delete_short r)
       (next_change w.card u.size m.free m.last (Deleting key NotBegun 0) (TakeOut key))

@@ -1,6 +1,6 @@
 -- Where a key leads on a card, and whether the leaf there is full.
 use Rattle.std.specs.Prelude.{Bool, true, false, not, List, [], ◌∷◌, ℕ, ◌-◌, ◌/◌, length, eqb}
-use Rattle.std.proofs.Math.Option.{Option, map, Option·elim}
+use Rattle.std.proofs.Math.Option.{Option, map, Option-elim}
 use Rattle.card.specs.Layout.{node_at, key_words}
 use Rattle.walk.specs.Descent.{way, run_over}
 use Rattle.laws.specs.Cases.{pick}
@@ -21,4 +21,4 @@ among x (y ∷ ys) = pick (eqb y x) true (among x ys)
 
 -- "A key word of 0 is an empty slot": no slot of the leaf that the key leads to is empty
 abbrev pub leaf_full : List ℕ → ℕ → Bool
-leaf_full c key = Option·elim (way c (nodes_on c) key).leaf false (λ p. not (among 0 (key_words (node_at c p.node))))
+leaf_full c key = Option-elim (way c (nodes_on c) key).leaf false (λ p. not (among 0 (key_words (node_at c p.node))))

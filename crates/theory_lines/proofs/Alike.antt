@@ -236,10 +236,10 @@ module _ (greatest : ℕ) (n steps : ℕ) (w : World (ration_table greatest)) (b
   unfolding happens
   begun_right (put key value) high e =
       let q = kept_insert greatest n steps w b i key value high in
-      (q.0, _, q.1, q.2.new-goal e, q.2.new-due e ∙ ap dictionary_answer (sym (same_lookup greatest i key) ∙ ap (lookup key) (sym (bare_pairs i.tree))), q.2.busy e)
+      (q.0, _, q.1, q.2.new_goal e, q.2.new_due e ∙ ap dictionary_answer (sym (same_lookup greatest i key) ∙ ap (lookup key) (sym (bare_pairs i.tree))), q.2.busy e)
   begun_right (remove key) high e =
       let q = kept_delete greatest (only n) steps w b i key high in
-      (q.0, _, q.1, q.2.new-goal e, q.2.new-due e ∙ ap dictionary_answer (sym (same_lookup greatest i key) ∙ ap (lookup key) (sym (bare_pairs i.tree))), q.2.busy e)
+      (q.0, _, q.1, q.2.new_goal e, q.2.new_due e ∙ ap dictionary_answer (sym (same_lookup greatest i key) ∙ ap (lookup key) (sym (bare_pairs i.tree))), q.2.busy e)
 
 refused_same : {r s : ℕ} → ◌≡◌ {A = Begun} (BegunRefused r) (BegunRefused s) → r ≡ s
 refused_same e = cc
