@@ -1,4 +1,4 @@
-use Rattle.std.proofs.Common.{◌≤◌, ◌++◌, ◌/◌, arith}
+use Rattle.std.proofs.Common.{◌++◌, ◌/◌, arith}
 use Rattle.list_text.specs.Text.{nodes_word, levels_word, pairs_word, first_line}
 use Rattle.text_row.specs.Lines.{decimal, line_feed, free_word}
 use Rattle.text_row.proofs.FillingLaws.{fill_then, fill_reached, number_within}

@@ -1,4 +1,4 @@
-use Rattle.std.proofs.Common.{ap, sym, ◌∙◌, ℕ}
+use Rattle.std.proofs.Common.{ap, ◌∙◌, ℕ}
 use Rattle.card_free.specs.NodeSet.{nodes_of, count_true}
 use Rattle.walk.specs.declared.Slot.{Slot}
 use Rattle.call_change.specs.Updates.{empty_reason, split_need}

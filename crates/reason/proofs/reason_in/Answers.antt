@@ -1,4 +1,4 @@
-use Rattle.std.proofs.Common.{◌<◌, ap, sym, ◌∙◌, arith}
+use Rattle.std.proofs.Common.{ap, sym, ◌∙◌, arith}
 use Rattle.card_free.specs.NodeSet.{nodes_of, count_true}
 use Rattle.walk.proofs.DescentLaws.{slot_below as slot-few}
 use Rattle.walk.specs.declared.Slot.{Slot}
