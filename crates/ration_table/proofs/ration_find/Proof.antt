@@ -8,23 +8,23 @@ use Rattle.call_find.specs.Answers.{found_reply}
 use Rattle.ration_table.proofs.ration_find.Statement.{statement}
 use Rattle.ration_table.proofs.ration_find.Tie as tie
 
-find-with-depth-requires : tie.Need-find-with-depth-requires
-find-with-depth-requires c κs = search rules
+find_with_depth-lookup-requires : tie.Need-find_with_depth-lookup-requires
+find_with_depth-lookup-requires c κs = search rules
 
-found-reply-requires : tie.Need-found-reply-requires
-found-reply-requires c κs = search rules
+found_reply-requires : tie.Need-found_reply-requires
+found_reply-requires c κs = search rules
 
-cast-with-depth : tie.Need-overflow-cast-with-depth
-cast-with-depth c = record { fits = omega (arith, c.before.before.find-with-depth.ensures.2) }
+overflow_cast-lookup : tie.Need-overflow_cast-lookup
+overflow_cast-lookup c = record { fits = omega (arith, c.find_with_depth-lookup.ensures.2) }
 
-with-depth-requires : tie.Need-with-depth-requires
-with-depth-requires c κs = search rules
+with_depth-requires : tie.Need-with_depth-requires
+with_depth-requires c κs = search rules
 
 returns : tie.Need-returns
 returns c =
-    c.with-depth.ensures
-    ∙ ap₂ (λ (depth : ℕ) (r : Reply). with_depth depth r) c.before.before.before.find-with-depth.ensures.1
-    (c.before.before.found-reply.ensures ∙ ap found_reply c.before.before.before.find-with-depth.ensures.0)
+    c.with_depth.ensures
+    ∙ ap₂ (λ (depth : ℕ) (r : Reply). with_depth depth r) c.find_with_depth-lookup.ensures.1
+    (c.found_reply.ensures ∙ ap found_reply c.find_with_depth-lookup.ensures.0)
 
 pub ration_find_spec : {M : Type 1} → statement M
-ration_find_spec = tie.close (tie.spec find-with-depth-requires found-reply-requires cast-with-depth with-depth-requires returns)
+ration_find_spec = tie.close (tie.spec find_with_depth-lookup-requires found_reply-requires overflow_cast-lookup with_depth-requires returns)

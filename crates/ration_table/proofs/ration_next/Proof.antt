@@ -8,23 +8,23 @@ use Rattle.walk_next.specs.Successor.{next_reply}
 use Rattle.ration_table.proofs.ration_next.Statement.{statement}
 use Rattle.ration_table.proofs.ration_next.Tie as tie
 
-next-with-depth-requires : tie.Need-next-with-depth-requires
-next-with-depth-requires c κs = search rules
+next_with_depth-next-requires : tie.Need-next_with_depth-next-requires
+next_with_depth-next-requires c κs = search rules
 
-next-reply-requires : tie.Need-next-reply-requires
-next-reply-requires c κs = search rules
+next_reply-requires : tie.Need-next_reply-requires
+next_reply-requires c κs = search rules
 
-cast-with-depth : tie.Need-overflow-cast-with-depth
-cast-with-depth c = record { fits = omega (arith, c.before.before.next-with-depth.ensures.2) }
+overflow_cast-next : tie.Need-overflow_cast-next
+overflow_cast-next c = record { fits = omega (arith, c.next_with_depth-next.ensures.2) }
 
-with-depth-requires : tie.Need-with-depth-requires
-with-depth-requires c κs = search rules
+with_depth-requires : tie.Need-with_depth-requires
+with_depth-requires c κs = search rules
 
 returns : tie.Need-returns
 returns c =
-    c.with-depth.ensures
-    ∙ ap₂ (λ (depth : ℕ) (r : Reply). with_depth depth r) c.before.before.before.next-with-depth.ensures.1
-    (c.before.before.next-reply.ensures ∙ ap next_reply c.before.before.before.next-with-depth.ensures.0)
+    c.with_depth.ensures
+    ∙ ap₂ (λ (depth : ℕ) (r : Reply). with_depth depth r) c.next_with_depth-next.ensures.1
+    (c.next_reply.ensures ∙ ap next_reply c.next_with_depth-next.ensures.0)
 
 pub ration_next_spec : {M : Type 1} → statement M
-ration_next_spec = tie.close (tie.spec next-with-depth-requires next-reply-requires cast-with-depth with-depth-requires returns)
+ration_next_spec = tie.close (tie.spec next_with_depth-next-requires next_reply-requires overflow_cast-next with_depth-requires returns)

@@ -7,20 +7,20 @@ use Rattle.ration_table.proofs.DumpLaws.{short_read}
 use Rattle.ration_table.proofs.ration_read_dump.Statement.{statement}
 use Rattle.ration_table.proofs.ration_read_dump.Tie as tie
 
-read-dump-requires : tie.Need-read-dump-requires
-read-dump-requires c κs = search rules
+read_dump-answer-requires : tie.Need-read_dump-answer-requires
+read_dump-answer-requires c κs = search rules
 
-dump-reply-requires : tie.Need-dump-reply-requires
-dump-reply-requires c κs =
-    λ n e. short_read c.before.before.before.before.before.before.args.dump.now
-    (length c.before.before.before.before.before.before.args.words.now) n (sym c.before.before.read-dump.ensures.0 ∙ e)
+dump_reply-requires : tie.Need-dump_reply-requires
+dump_reply-requires c κs =
+    λ n e. short_read c.args.dump.now
+    (length c.args.words.now) n (sym c.read_dump-answer.ensures.0 ∙ e)
 
-same_length : tie.Need-same-length
-same_length c = search rules
+shape_of-words : tie.Need-shape_of-words
+shape_of-words c = search rules
 
 returns : tie.Need-returns
-returns c = (c.dump-reply.ensures ∙ ap dump_reply c.before.before.before.read-dump.ensures.0, c.before.before.before.read-dump.ensures.1)
+returns c = (c.dump_reply.ensures ∙ ap dump_reply c.read_dump-answer.ensures.0, c.read_dump-answer.ensures.1)
 
 pub ration_read_dump_spec : {M : Type 1} → statement M
 ration_read_dump_spec =
-    tie.close (tie.spec read-dump-requires dump-reply-requires same_length returns)
+    tie.close (tie.spec read_dump-answer-requires dump_reply-requires shape_of-words returns)

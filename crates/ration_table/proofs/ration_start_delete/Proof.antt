@@ -3,17 +3,17 @@ use borrow.Author.Rules.{rules}
 use Rattle.ration_table.proofs.ration_start_delete.Statement.{statement}
 use Rattle.ration_table.proofs.ration_start_delete.Tie as tie
 
-start-delete-requires : tie.Need-start-delete-requires
-start-delete-requires c κs = search rules
+start_delete-requires : tie.Need-start_delete-requires
+start_delete-requires c κs = search rules
 
-start-reply-requires : tie.Need-start-reply-requires
-start-reply-requires c κs = search rules
+start_reply-requires : tie.Need-start_reply-requires
+start_reply-requires c κs = search rules
 
-same_length : tie.Need-same-length
-same_length c = search rules
+shape_of-state : tie.Need-shape_of-state
+shape_of-state c = search rules
 
 returns : tie.Need-returns
-returns c = (c.before.before.before.start-delete.result, c.start-reply.ensures, c.before.before.before.start-delete.ensures)
+returns c = (c.start_delete.result, c.start_reply.ensures, c.start_delete.ensures)
 
 pub ration_start_delete_spec : {M : Type 1} → statement M
-ration_start_delete_spec = tie.close (tie.spec start-delete-requires start-reply-requires same_length returns)
+ration_start_delete_spec = tie.close (tie.spec start_delete-requires start_reply-requires shape_of-state returns)

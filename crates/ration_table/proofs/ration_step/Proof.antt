@@ -23,26 +23,26 @@ unfolding told_depth
 same_depth after answer no_state_lem =
     by_cases (ℕ_discrete (length after) state_words) (λ l. rw (eq-eqb (length after) state_words l)) (λ n. rw (no_state_lem n))
 
-step-requires : tie.Need-step-requires
-step-requires c κs = search rules
+step-answer-requires : tie.Need-step-answer-requires
+step-answer-requires c κs = search rules
 
-step-reply-requires : tie.Need-step-reply-requires
-step-reply-requires c κs = search rules
+step_reply-requires : tie.Need-step_reply-requires
+step_reply-requires c κs = search rules
 
-same_length : tie.Need-same-length
-same_length c = search rules
+shape_of-card : tie.Need-shape_of-card
+shape_of-card c = search rules
 
-same-length-2 : tie.Need-same-length-2
-same-length-2 c = search rules
+shape_of-state : tie.Need-shape_of-state
+shape_of-state c = search rules
 
 returns : tie.Need-returns
 returns c = (
-  c.before.before.before.before.before.before.step.result,
-  c.step-reply.ensures ∙ same_depth _ c.before.before.before.before.before.before.step.result
-      (λ n. (c.before.before.before.before.before.before.step.ensures.no_state_lem
-      (λ l. n (c.before.before.before.before.before.before.step.auto.1.0 ∙ l))).0),
-  c.before.before.before.before.before.before.step.ensures,
+  c.step-answer.result,
+  c.step_reply.ensures ∙ same_depth _ c.step-answer.result
+      (λ n. (c.step-answer.ensures.no_state_lem
+      (λ l. n (c.step-answer.auto.state ∙ l))).0),
+  c.step-answer.ensures,
 )
 
 pub ration_step_spec : {M : Type 1} → statement M
-ration_step_spec = tie.close (tie.spec step-requires step-reply-requires same_length same-length-2 returns)
+ration_step_spec = tie.close (tie.spec step-answer-requires step_reply-requires shape_of-card shape_of-state returns)

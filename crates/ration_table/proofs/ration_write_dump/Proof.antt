@@ -7,20 +7,20 @@ use Rattle.ration_table.proofs.DumpLaws.{short_write}
 use Rattle.ration_table.proofs.ration_write_dump.Statement.{statement}
 use Rattle.ration_table.proofs.ration_write_dump.Tie as tie
 
-write-dump-requires : tie.Need-write-dump-requires
-write-dump-requires c κs = search rules
+write_dump-answer-requires : tie.Need-write_dump-answer-requires
+write_dump-answer-requires c κs = search rules
 
-dump-reply-requires : tie.Need-dump-reply-requires
-dump-reply-requires c κs =
-    λ n e. short_write c.before.before.before.before.before.before.args.card.now
-    (length c.before.before.before.before.before.before.args.bytes.now) n (sym c.before.before.write-dump.ensures.0 ∙ e)
+dump_reply-requires : tie.Need-dump_reply-requires
+dump_reply-requires c κs =
+    λ n e. short_write c.args.card.now
+    (length c.args.bytes.now) n (sym c.write_dump-answer.ensures.0 ∙ e)
 
-same_length : tie.Need-same-length
-same_length c = search rules
+shape_of-bytes : tie.Need-shape_of-bytes
+shape_of-bytes c = search rules
 
 returns : tie.Need-returns
-returns c = (c.dump-reply.ensures ∙ ap dump_reply c.before.before.before.write-dump.ensures.0, c.before.before.before.write-dump.ensures.1)
+returns c = (c.dump_reply.ensures ∙ ap dump_reply c.write_dump-answer.ensures.0, c.write_dump-answer.ensures.1)
 
 pub ration_write_dump_spec : {M : Type 1} → statement M
 ration_write_dump_spec =
-    tie.close (tie.spec write-dump-requires dump-reply-requires same_length returns)
+    tie.close (tie.spec write_dump-answer-requires dump_reply-requires shape_of-bytes returns)
