@@ -33,6 +33,13 @@ LEMMAS = """
     step-task together-count two-leaves values-row way-depth with-totals
 """.split()
 
+# Names that an import or a pattern gives, and no signature.
+EXTRA = """
+    leaf-look one-level few-before few-after past-left short-right cut-few leaf-landed by-depth no-rest in-set next-depth-only rows-kept
+    dictionary-kept book-kept dumps-kept list-kept next-kept padding-kept depth-kept totals-kept search-kept reasons-kept fetching-kept
+    depths-kept sizes-kept table-idle mends-by idle-step three-long
+""".split()
+
 # Names that port.py wrote, and that a definition of the same file would meet.
 HERE = {
     "crates/call_step/proofs/StepBlockLaws.antt": {"in-words": "in_words_lem", "places_row": "places_row_lem"},
@@ -99,7 +106,7 @@ def collect(texts):
             own.update(m[1].split())
         for m in LAMBDA.finditer(code):
             own.update(m[1].split())
-    own = {n for n in own if wants(n)}
+    own = {n for n in own if wants(n)} | set(EXTRA)
     return own, {n for n in fields if wants(n)}
 
 
@@ -212,7 +219,7 @@ def main():
             here = table | HERE.get(p, {})
             for n in sorted(tokens & set(here)):
                 if n not in skip and here[n] in tokens and here[n] not in here:
-                    print(f"meets: {p}: {n} and {table[n]}")
+                    print(f"meets: {p}: {n} and {here[n]}")
         elif p.endswith(".rt"):
             code = strip_comments(text, False)
             words = set(re.findall(r"\w+", code))

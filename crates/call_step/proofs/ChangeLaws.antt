@@ -230,12 +230,12 @@ module _ (greatest line : ℕ) (card b : List ℕ) (long : length b ≡ state_wo
 
   pub task_changes : Sized greatest (length card) state.nodes → state.rest ≡ [] → outcome_of next.decision ≡ Prepared
       → Changes own b next.doing next.decision
-  task_changes size no-rest o =
+  task_changes size no_rest o =
       record {
         task = task;
         final = next.answer;
         holds = holds;
-        none = no-rest;
+        none = no_rest;
         next = next_is;
         fits = subst (λ (f : First). Fits own f.decision) (sym is) (decided_fits greatest own state.nodes (seen_sized line card size) state.doing task);
         some = o;

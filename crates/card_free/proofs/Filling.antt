@@ -49,7 +49,7 @@ word_full : (q n word : ℕ) → q < word_count → n < capacity
     → ((i : ℕ) → i < 32 → 32 * q + i ≤ n → digit word i ≡ 1)
     → ((i : ℕ) → i < 32 → n < 32 * q + i → digit word i ≡ 0)
     → digits_of 32 word ≡ take 32 (drop (32 * q) (up_to n))
-word_full q n word h u in-set above =
+word_full q n word h u in_set above =
     ext_get_or false (digits_of 32 word) (take 32 (drop (32 * q) (up_to n)))
     (length_digits 32 word ∙ sym (length-take-le 32 (drop (32 * q) (up_to n)) (omega (arith, length-drop (32 * q) (up_to n), length_up n u))))
     (λ i l. at_place i (omega (arith, length_digits 32 word)) (dec_lt n (32 * q + i)))
@@ -61,7 +61,7 @@ word_full q n word h u in-set above =
         ∙ sym (get_or-take 32 (drop (32 * q) (up_to n)) i false l ∙ get_or-drop (32 * q) (up_to n) i false ∙ up_above n (32 * q + i) a)
     at_place i l (no a) =
         digits_get 32 word i l
-        ∙ eq-eqb (digit word i) 1 (in-set i l (omega arith))
+        ∙ eq-eqb (digit word i) 1 (in_set i l (omega arith))
         ∙ sym (get_or-take 32 (drop (32 * q) (up_to n)) i false l ∙ get_or-drop (32 * q) (up_to n) i false ∙ up_get n (32 * q + i) (omega arith))
 
 pub word_none : (q n : ℕ) → q < word_count → n < capacity → n < 32 * q → digits_of 32 0 ≡ take 32 (drop (32 * q) (up_to n))

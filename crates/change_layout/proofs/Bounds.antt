@@ -285,9 +285,9 @@ module _ (free : List Bool) (last : ℕ) (change : List ℕ → Change) where
       → ((ms : List ℕ) → length (change ms).cut ≤ 3) → ((ms : List ℕ) → before_zero (pad 3 (change ms).cut) ≡ (change ms).cut)
       → ((ms : List ℕ) → (get_or (change_stores (change ms)) 0 (0, 0)).0 ≡ place (first ms) 0) → WithinBounds free (giving k free last change)
   unfolding giving
-  giving_bounds k room few cut-few read from =
+  giving_bounds k room few cut_few read from =
       over_bounds
-      (λ ms. let count = change_count (change ms) (room ms) (few ms) in (count.0, count.1, cut-few ms, read ms, omega (arith, from ms))) (take_numbers k free last)
+      (λ ms. let count = change_count (change ms) (room ms) (few ms) in (count.0, count.1, cut_few ms, read ms, omega (arith, from ms))) (take_numbers k free last)
 
 pub laid_bounds : (card : List ℕ) (d : Decision) (free : List Bool) (last : ℕ) → Fits card d → WithinBounds free (lay_out card d free last)
 unfolding lay_out WithinBounds Fits cut_by change_stores split_leaf absorb split_parent share halves copied merge merge_root node_image

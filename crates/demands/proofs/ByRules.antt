@@ -11,7 +11,7 @@ use lib.ListN.{length, get_or, set, drop, length-append}
 use Rattle.theory_change.proofs.Line.{only, exact_only}
 use Rattle.card.specs.Stores.{Store}
 use Rattle.demands.specs.Events.{Event, World, reply_to, happens, run, LeftUncut, steps_in, ask, insert, delete, step, cut}
-use Rattle.demands.specs.Demand2.{StoresNow, Makes, Between, Repairs, Updates, done, mends as mends-by, no_change, changes}
+use Rattle.demands.specs.Demand2.{StoresNow, Makes, Between, Repairs, Updates, done, mends as mends_by, no_change, changes}
 use Rattle.demands.specs.Rules.{Given, marked}
 use Rattle.demands.specs.RationTable.{ration_table}
 use Rattle.demands.proofs.Making.{Nears, nearer, store_at, Left, run_left, stores_each}
@@ -295,7 +295,7 @@ repair_next greatest final most w x k (exact, turn) later = at turn
     at (inr q) =
         let r = repair_by_rule w.card v.size q.key q.planned in
         let m = memory v.size q.then_free q.then_last w.state.depth w.state.totals w.state.doing [] q.out in
-        mends-by v.inv.tree between r.rule
+        mends_by v.inv.tree between r.rule
         (change_made greatest final most w x m q.first q.rest q.first_made q.short r.given q.out r.in_turn r.left
         (r.given_last ∙ last_same w.state.last r.given) refl (cut_marked q.out q.then_free))
         (λ qs u n. let l = all_left greatest final most w x m q.first q.rest q.first_made qs u n in

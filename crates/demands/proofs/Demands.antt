@@ -18,20 +18,20 @@ use Rattle.demands.specs.W209.{W209}
 use Rattle.demands.specs.W210.{W210}
 use Rattle.demands.specs.W213.{W213}
 use Rattle.demands.specs.W214.{W214}
-use Rattle.demands.proofs.Depths.{w_214 as depths-kept}
-use Rattle.demands.proofs.Fetching.{w_213 as fetching-kept}
-use Rattle.demands.proofs.InsertChecks.{w_209 as reasons-kept}
-use Rattle.demands.proofs.DepthTold.{w_203 as depth-kept}
-use Rattle.demands.proofs.FamiliesTold.{w_204 as totals-kept}
-use Rattle.demands.proofs.SearchStart.{w_205 as search-kept}
-use Rattle.demands.proofs.BiggerCards.{w_210 as sizes-kept}
-use Rattle.demands.proofs.FirstSteps.{demand_1 as rows-kept}
-use Rattle.demands.proofs.Dictionary.{demand_2 as dictionary-kept}
-use Rattle.demands.proofs.PowerCuts.{demand_3 as book-kept}
-use Rattle.demands.proofs.DumpsRight.{dumps_right as dumps-kept}
-use Rattle.demands.proofs.ListRight.{list_program as list-kept}
-use Rattle.demands.proofs.NextNumber.{w_201 as next-kept}
-use Rattle.demands.proofs.PaddingTest.{w_202 as padding-kept}
+use Rattle.demands.proofs.Depths.{w_214 as depths_kept}
+use Rattle.demands.proofs.Fetching.{w_213 as fetching_kept}
+use Rattle.demands.proofs.InsertChecks.{w_209 as reasons_kept}
+use Rattle.demands.proofs.DepthTold.{w_203 as depth_kept}
+use Rattle.demands.proofs.FamiliesTold.{w_204 as totals_kept}
+use Rattle.demands.proofs.SearchStart.{w_205 as search_kept}
+use Rattle.demands.proofs.BiggerCards.{w_210 as sizes_kept}
+use Rattle.demands.proofs.FirstSteps.{demand_1 as rows_kept}
+use Rattle.demands.proofs.Dictionary.{demand_2 as dictionary_kept}
+use Rattle.demands.proofs.PowerCuts.{demand_3 as book_kept}
+use Rattle.demands.proofs.DumpsRight.{dumps_right as dumps_kept}
+use Rattle.demands.proofs.ListRight.{list_program as list_kept}
+use Rattle.demands.proofs.NextNumber.{w_201 as next_kept}
+use Rattle.demands.proofs.PaddingTest.{w_202 as padding_kept}
 use Rattle.call_find.specs.Find.{find_depth}
 use Rattle.walk_next.specs.Successor.{next_depth}
 use Rattle.call_step.specs.Calls.{step_of}
@@ -63,19 +63,19 @@ pub record Promises (greatest : ℕ) : Type 0 where
 pub promises : (greatest : ℕ) → Promises greatest
 promises greatest =
     record {
-      demand_1 = rows-kept greatest;
-      demand_2 = dictionary-kept greatest;
-      demand_3 = book-kept greatest;
-      dumps = dumps-kept greatest;
-      list_program = list-kept greatest;
-      w_201 = next-kept greatest;
-      w_202 = padding-kept greatest;
-      w_203 = depth-kept greatest;
-      w_204 = totals-kept greatest;
-      w_205 = search-kept greatest;
-      w_209 = reasons-kept greatest;
-      w_213 = fetching-kept greatest;
-      w_214 = depths-kept greatest;
+      demand_1 = rows_kept greatest;
+      demand_2 = dictionary_kept greatest;
+      demand_3 = book_kept greatest;
+      dumps = dumps_kept greatest;
+      list_program = list_kept greatest;
+      w_201 = next_kept greatest;
+      w_202 = padding_kept greatest;
+      w_203 = depth_kept greatest;
+      w_204 = totals_kept greatest;
+      w_205 = search_kept greatest;
+      w_209 = reasons_kept greatest;
+      w_213 = fetching_kept greatest;
+      w_214 = depths_kept greatest;
     }
 
 -- READ OFF AT 600, where the programs `list` and `insert_check` stand, AND AT 2,600, where the calls do
@@ -87,4 +87,4 @@ at_2600 = promises 2600
 
 -- what is alike for two greatest Ns, and the levels and stores at these two
 pub w_210 : W210 (λ greatest dump lent. dump_reply (read_answer greatest dump lent)) (λ greatest c lent. dump_reply (write_answer greatest c lent)) (dump_text program_nodes) (check_text program_nodes)
-w_210 = sizes-kept
+w_210 = sizes_kept

@@ -29,7 +29,7 @@ use Rattle.walk.specs.declared.Slot.TheVariants.{At, Absent as NoSlot}
 use Rattle.call_find.specs.Answers.{found_reply}
 use Rattle.call_find.specs.Find.{found_in, found_at, find_of, find_depth, find_in, depth_in}
 use Rattle.call_find.proofs.FindLaws.{depth_only}
-use Rattle.walk_next.proofs.SuccessorLaws.{depth_only as next-depth-only}
+use Rattle.walk_next.proofs.SuccessorLaws.{depth_only as next_depth_only}
 use Rattle.walk_next.specs.Successor.{next_of, next_reply, carried, next_depth}
 use Rattle.walk_next.specs.declared.Successor.{Successor}
 use Rattle.walk_next.specs.declared.Successor.TheVariants.{Pair, Nothing as NoNext, Refused as NextRefused}
@@ -102,7 +102,7 @@ module _ (greatest : ℕ) (w : World (ration_table greatest)) (b : Book) (v : Co
   next_tells : (t : Tree) → WellFormed w.card t → (number : ℕ) → number < key_limit → next_depth greatest 1 w.card number ≡ passed_in number t
   unfolding carried
   next_tells t k number high =
-      next-depth-only greatest w.card number accepted
+      next_depth_only greatest w.card number accepted
       ∙ go (next_of greatest 1 w.card number) (next_right greatest w.card t number k accepted high)
       ∙ ap (λ (n : ℕ). depth_of (leaf_of (way w.card n number))) on_card_lem ∙ passes greatest w.card v.size t (standing t k) number
     where

@@ -36,7 +36,7 @@ decided_totals (job_delete decided) totals = refl
 pub changed_totals : {doing : Doing} {key : ℕ} {due : Answer} {u : Update} → Job InHand doing key due (some u) → (totals : List ℕ) (a b : List (ℕ × ℕ))
     → length a < 2 ^ 32 → length b < 2 ^ 32 → Changes u a b → Totals totals a → Totals (settled_totals doing totals) b
 unfolding settled_totals settled_in settled_out
-changed_totals (job_insert {key = key} {value = value} in_hand_lem) totals a b few-before few-after e k =
-    totals_in key value (omega (arith, e.key_small)) totals a b k e.by_one few-after
-changed_totals (job_delete {key = key} in_hand_lem) totals a b few-before few-after e k =
-    totals_out key e.by_one.0 (omega (arith, e.key_small)) totals a b k e.by_one.1 few-before
+changed_totals (job_insert {key = key} {value = value} in_hand_lem) totals a b few_before few_after e k =
+    totals_in key value (omega (arith, e.key_small)) totals a b k e.by_one few_after
+changed_totals (job_delete {key = key} in_hand_lem) totals a b few_before few_after e k =
+    totals_out key e.by_one.0 (omega (arith, e.key_small)) totals a b k e.by_one.1 few_before

@@ -10,9 +10,9 @@ use lib.ListN.{length, set, get_or, length-append, length-set}
 use lib.Seq.{get_or-set_same}
 use Rattle.card.specs.Layout.{lowest_key, key_limit, place, slot_pairs}
 use Rattle.card.specs.NodeWords.{OnCard}
-use Rattle.card.specs.Stores.{Store, stores, NewNode, node_stores}
+use Rattle.card.specs.Stores.{Store, NewNode, node_stores}
 use Rattle.card.proofs.Stores.{numbered}
-use Rattle.change_plan.specs.Planning.{without_all, first, second, third, with_all, balanced}
+use Rattle.change_plan.specs.Planning.{without_all, first, second, third, with_all}
 use Rattle.theory_change.proofs.Line.{Line, Partition, Own, size, own_node, given_fresh, given_own, given_on_card, partition_after}
 use Rattle.walk.specs.Descent.{first_equal}
 use Rattle.walk.specs.declared.Slot.TheVariants.{At, Absent as NoSlot}
@@ -37,12 +37,11 @@ use Rattle.laws.proofs.Totals.{indicator_same, indicator_other, indicator_le, to
 use Rattle.demands.proofs.LeafAfter.{LeafAfter, ready_after, on_path, two_pairs, leaf_after}
 use Rattle.demands.specs.Book.{Update, put, remove}
 use Rattle.demands.proofs.BookLaws.{Changes, changes_put, changes_remove}
-use Rattle.call_change.specs.Updates.{held, split_need}
-use Rattle.theory_tree.proofs.Cut.{cut}
+use Rattle.call_change.specs.Updates.{split_need}
 use Rattle.theory_tree.proofs.InPlace.{value_stored, key_stored, slot_pairs_out, slot_pairs_in, length_total}
 use Rattle.theory_tree.proofs.Lookup.{key_once}
 use Rattle.theory_tree.specs.Pairs.{pairs, has_key, outside, LeafRange}
-use Rattle.theory_tree.proofs.Pairs.{slot_pairs_value, absent}
+use Rattle.theory_tree.proofs.Pairs.{slot_pairs_value}
 use Rattle.theory_tree.proofs.Path.{depth_of, full_run, reserve}
 use Rattle.theory_tree.proofs.Represent.{link_place, unplugged}
 use Rattle.theory_tree.specs.Represent.{Holds}

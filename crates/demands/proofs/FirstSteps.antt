@@ -55,7 +55,7 @@ use Rattle.state.specs.declared.Task.TheVariants.{PutIn, TakeOut, Repair}
 use Rattle.state.proofs.Tasks.{in_hand_lem, decided, TaskOf, putting, taking, put, taken, opened, task_of}
 use Rattle.call_step.specs.Calls.{planning, step_prepared, step_begin, step_task, step_of}
 use Rattle.call_change.specs.Updates.{landing, no_way, in_leaf, next_change}
-use Rattle.call_change.proofs.UpdateLaws.{landed as leaf-landed}
+use Rattle.call_change.proofs.UpdateLaws.{landed as leaf_landed}
 
 -- ---- the leaf
 
@@ -70,11 +70,11 @@ missing node x e = sym (slot_among (key_words node) x 0) ∙ ap slot_found e
 -- its slots are on the card
 module _ (greatest : ℕ) (c : List ℕ) (n key m link run : ℕ) (sized : Sized greatest (length c) n) (lands : landing c n key ≡ LandingAt m link run) where
   leaf_words : length (node_at c m) ≡ 24
-  leaf_words = let k = leaf-landed greatest c n key m link run sized lands in length_node c m k.inside.one (omega (arith, k.inside.most, sized.words))
+  leaf_words = let k = leaf_landed greatest c n key m link run sized lands in length_node c m k.inside.one (omega (arith, k.inside.most, sized.words))
 
   on_card_lem : (x i j : ℕ) → slot_of (node_at c m) x ≡ At i → j ≤ 12 + i → place m j < length c
   on_card_lem x i j e h =
-      let k = leaf-landed greatest c n key m link run sized lands in
+      let k = leaf_landed greatest c n key m link run sized lands in
       omega (arith, k.inside.one, k.inside.most, sized.words, slot_below (node_at c m) x i leaf_words e)
 
 module _ (greatest : ℕ) (c : List ℕ) (m : Memory) where

@@ -31,7 +31,6 @@ use Rattle.state.specs.declared.Answer.TheVariants.{Ready, Absent, Value}
 use Rattle.demands.proofs.Shapes.{after_shape}
 use Rattle.theory_shapes.proofs.Bare.{bare}
 use Rattle.theory_shapes.proofs.Whole.{Heads}
-use Rattle.theory_tree.proofs.Cut.{cut}
 use Rattle.theory_tree.specs.Pairs.{pairs, lookup}
 use Rattle.theory_tree.specs.Represent.{Holds}
 use Rattle.theory_tree.specs.Height.{Height}

@@ -6,7 +6,6 @@ use Prim.Native.Nat.{ℕ, ◌+◌, ◌≤◌, ◌<◌}
 use native.Mathlib.Omega.{arith}
 use lib.ListN.{length}
 use Rattle.card.specs.Layout.{lowest_key, key_limit, slot_pairs}
-use Rattle.change_plan.specs.Planning.{balanced}
 use Rattle.theory_change.proofs.Line.{Line, Partition, size, partition_same}
 use Rattle.theory_change.proofs.Parent.{violations_part}
 use Rattle.theory_change.proofs.Repaired.{Mendable, settled, violated}

@@ -39,7 +39,7 @@ use Rattle.demands.specs.RationTable.{ration_table}
 use Rattle.demands.proofs.BookLaws.{IsFinal}
 use Rattle.demands.proofs.Invariant.{Stage, Inv, Toward, stage_idle, stage_put, stage_remove, stage_first, stage_between, stage_within}
 use Rattle.demands.proofs.Starting.{nodes_same, start_checked_lem}
-use Rattle.demands.proofs.Steps.{Busy, job_busy, put_busy, remove_busy, idle_refused as idle-step}
+use Rattle.demands.proofs.Steps.{Busy, job_busy, put_busy, remove_busy, idle_refused as idle_step}
 use Rattle.demands.proofs.Stepping.{Right, Moves, was_idle, ends_now, goes_further, kept_step}
 
 -- nothing is being done, or a task is held
@@ -133,7 +133,7 @@ module _ (greatest : ℕ) (own : Line) (line : ℕ) (is : IsLine line) (c : List
       where
         go : Moves own table m on_table → StoresOwn
         go (was_idle e) =
-            let rest = idle-step greatest table m e in
+            let rest = idle_step greatest table m e in
             none (ap (λ (x : Step). x.card) on_line_lem ∙ still_on line c on_table (Refused rest.0) (ap (λ (x : Step). x.answer) rest.1) (λ p z. impossible (cc)))
             (ap (λ (x : Step). x.card) rest.1)
         go (ends_now f same idle) = none (ap (λ (x : Step). x.card) on_line_lem ∙ still_on line c on_table on_table.answer refl (λ p z. subst IsFinal z f)) same

@@ -26,7 +26,6 @@ use Rattle.state.specs.declared.Doing.TheVariants.{Idle, Formatting, Inserting, 
 use Rattle.theory_tree.specs.Pairs.{pairs}
 use Rattle.theory_tree.specs.Tree.{Tree}
 use Rattle.theory_tree.specs.WellFormed.{WellFormed, Balanced}
-use mathlib.Core.Option.{none}
 
 -- so many steps
 abbrev pub steps : ℕ → List Event

@@ -16,7 +16,6 @@ use Rattle.call_start.proofs.StartLaws.{room_seen}
 use Rattle.card.specs.Header.{nodes_of_length, header_refusal, Sized, Formatted}
 use Rattle.card.proofs.HeaderLaws.{nodes_sized, sized_nodes, formatted_header}
 use Rattle.card.specs.Layout.{node_at, key_words}
-use Rattle.card.specs.Replies.{absent}
 use Rattle.demands.specs.Demand1.{HandsBack, Starts}
 use Rattle.demands.specs.Table.{inserting, deleting}
 use Rattle.demands.specs.Way.{leads_to, among}
@@ -45,7 +44,7 @@ use Rattle.state.specs.Steps.{is_idle}
 use Rattle.state.specs.declared.Doing.{Doing}
 use Rattle.state.specs.declared.Doing.TheVariants.{Inserting, Deleting}
 use Rattle.state.specs.declared.Phase.TheVariants.{NotBegun}
-use Rattle.call_change.specs.Updates.{landing, reason_in, empty_reason, insert_reason, split_need, room_for, start_room, full}
+use Rattle.call_change.specs.Updates.{landing, reason_in, empty_reason, insert_reason, split_need, room_for, start_room}
 
 -- a state whose N does not fit the card
 pub not_sized : (greatest : ℕ) (c : List ℕ) (n : ℕ) → NoCard greatest c n → (nodes_of_length greatest (length c) ≡ 0 → ⊥) → nodes_of_length greatest (length c) ≡ n → ⊥

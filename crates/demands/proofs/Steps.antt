@@ -20,7 +20,7 @@ use Rattle.demands.specs.Events.{World, happens, step}
 use Rattle.demands.specs.RationTable.{ration_table}
 use Rattle.state.specs.Steps.{held_by, step_refused, step_final, step_store, is_idle}
 use Rattle.call_step.specs.Calls.{planning, step_prepared, step_begin, step_task, step_checked, step_held, step_of}
-use Rattle.call_step.proofs.StepLaws.{step_sized, task_due, idle_refused as table-idle}
+use Rattle.call_step.proofs.StepLaws.{step_sized, task_due, idle_refused as table_idle}
 use Rattle.state.specs.Memory.{Memory, idled, settled_phase, settled, advanced}
 use Rattle.call_change.specs.Updates.{next_change}
 use Rattle.state.specs.declared.Doing.{Doing}
@@ -91,7 +91,7 @@ module _ (greatest : ℕ) (c : List ℕ) (n : ℕ) (sized : Sized greatest (leng
   module _ (free : List Bool) (last depth : ℕ) (totals : List ℕ) where
     pub step_idle : step_of greatest 1 c (memory n free last depth totals Idle [] []) ≡ step_refused 10 c (memory n free last depth totals Idle [] [])
     unfolding held_by
-    step_idle = checks_passed (memory n free last depth totals Idle [] []) refl ∙ table-idle 1 c (memory n free last depth totals Idle [] []) (headed (memory n free last depth totals Idle [] []) refl)
+    step_idle = checks_passed (memory n free last depth totals Idle [] []) refl ∙ table_idle 1 c (memory n free last depth totals Idle [] []) (headed (memory n free last depth totals Idle [] []) refl)
 
     module _ (doing : Doing) (busy : Busy doing) (cut : List ℕ) where
       work : (rest : List Store) → step_of greatest 1 c (memory n free last depth totals doing rest cut) ≡ step_task c (memory n free last depth totals doing rest cut) busy.task rest

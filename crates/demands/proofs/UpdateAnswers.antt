@@ -56,10 +56,10 @@ module _ (greatest : ℕ) {n steps : ℕ} {w : World (ration_table greatest)} {b
   -- "With 600 nodes a balanced tree has at most 8 internal levels"
   within_bound : {final : Reply} {v : World (ration_table greatest)} → w.state.doing ≡ Idle
       → ((t : Tree) → WellFormed w.card t → (h : ℕ) → Height h t → Stores greatest (update_stores_at h) final v) → Stores greatest (most_stores greatest) final v
-  within_bound idle by-depth =
+  within_bound idle by_depth =
       let r = inv_rests greatest n steps w b i idle in
       let level = r.balanced.well_formed.level in
-      let q = by-depth r.table r.balanced.well_formed level.0 level.1 in
+      let q = by_depth r.table r.balanced.well_formed level.0 level.1 in
       (q.0, omega (arith, q.1, r.levels level.0 level.1), q.2)
 
   pub insert_stores : (value : ℕ) → (insert_of greatest 1 w.card w.state key value).begun ≡ Started

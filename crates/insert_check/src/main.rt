@@ -3,11 +3,41 @@
 
 #![tactic(auto)]
 
-fn main() {
+ghost use Rattle.std.specs.Prelude.{◌≤◌, length};
+
+use std::fs;
+use std::io::Read;
+use std::rt::Files;
+
+// Reads until the bytes are full, the file ends or a read fails, and answers how many bytes it put at their start.
+fn read_full(file: &mut impl Read, bytes: &mut [u8]) -> usize
+    ensures { result ≤ length bytes.new }
+{
+    let mut done: usize = 0;
+    while done < bytes.len() {
+        match file.read(&mut bytes[done..]) {
+            Ok(0) => break,
+            Ok(n) => done += n,
+            Err(_) => break,
+        }
+    }
+    done
+}
+
+// The first bytes of the file `key`, and how many there are.
+fn read_key(rt: &impl Files, bytes: &mut [u8]) -> usize
+    ensures { result ≤ length bytes.new }
+{
+    match fs::open(rt, "key") {
+        Ok(mut file) => read_full(&mut file, bytes),
+        Err(_) => 0,
+    }
+}
+
+fn main(rt: HostRuntime) {
     let mut dump = io::large_buffer();
     let length = io::read_full(0, &mut dump);
-    let fd = os::open_read(b"key");
     let mut file = io::buffer();
-    let got = io::read_full(fd, &mut file);
+    let got = read_key(&rt, &mut file);
     reason_text::print_check(&dump[..length], &file[..got]);
 }

@@ -42,4 +42,5 @@ module _ (greatest : ℕ) (card : List ℕ) (after : ℕ) (l : Laid) where
   pub walk_goes_on : (left key value : ℕ) → 0 < left → next_of greatest 1 card after ≡ Pair key value
       → lay_pairs (walk_from greatest 1 left card after) l ≡ lay_pairs (walk_from greatest 1 (left - 1) card key) (lay_pair (key, value) l)
   unfolding walk_from on_next lay_pairs
+  walk_goes_on zero key value h e = absurd (omega arith)
   walk_goes_on (suc left) key value h e = let q : suc left - 1 ≡ left = omega arith in rw (e, q)

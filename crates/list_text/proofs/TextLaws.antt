@@ -95,6 +95,10 @@ module _ (f n : ℕ) where
   unfolding family_shown
   family_hidden e = rw (eq-eqb n 0 e)
 
+  pub nothing_put : (at : ℕ) (row : List ℕ) → n ≡ 0 → filled at row ≡ fill (family_shown f n) (filled at row)
+  unfolding fill
+  nothing_put at row e = rw (family_hidden e)
+
   pub family_shown_lem : (n ≡ 0 → ⊥) → family_shown f n ≡ family_line f n
   unfolding family_shown
   family_shown_lem d = rw (ne_eqb n 0 d)

@@ -62,6 +62,7 @@ fn put_pairs(text: &mut [u8], at: usize, words: &[u32]) -> usize
 }
 
 // "a line `family F n` for each family with n above 0"
+#[tactic(auto, using(crate::proofs::TextLaws::nothing_put))]
 fn put_family(text: &mut [u8], at: usize, family: u32, total: u32) -> usize
     requires { at + 29 ≤ length text.old }
     ensures text_after { filled result text.new ≡ fill (family_shown family total) (filled at text.old) }

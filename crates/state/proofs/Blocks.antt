@@ -196,7 +196,7 @@ head_four block n l p q r s made count x y z h =
 pub head_stored : (block : List ℕ) (s : State) → 11 ≤ length block → length s.cut ≡ 3
     → headed (begun_block (set (set block 0 s.nodes) 1 s.last) s.doing) s ≡ head_words s ++ drop 11 block
 unfolding begun_block head_words
-head_stored block s h three-long =
+head_stored block s h three_long =
     ap (λ (words : List ℕ). headed (over (set (set block 0 s.nodes) 1 s.last) 2 words) s) (sym (words_each s.doing))
     ∙ head_four block _ _ _ _ _ _ _ _ _ _ _ h
     ∙ ap₂ (λ (words cut : List ℕ). (s.nodes ∷ s.last ∷ words ++ (s.made ∷ s.count ∷ cut)) ++ drop 11 block)

@@ -30,7 +30,6 @@ use Rattle.theory_tree.proofs.Sorted.{outside_none, rising_sort}
 use Rattle.theory_tree.specs.Height.{Height}
 use Rattle.theory_tree.specs.Tree.{Tree, node_total, leaf, node}
 use Rattle.theory_tree.proofs.Tree.{Context}
-use Rattle.theory_tree.specs.Violations.{few}
 
 -- A part o of a table, in the context C, gives way to the part s, which holds the pair (k, v) besides: as a rewrite, but for that
 -- pair.

@@ -11,14 +11,13 @@ use Rattle.card.specs.NodeWords.{OnCard}
 use Rattle.card.proofs.NodeWords.{on_card_set}
 use Rattle.card.specs.Stores.{Store}
 use Rattle.card.proofs.Stores.{play, Within, done, also}
-use Rattle.change_plan.specs.Planning.{first, with_all}
+use Rattle.change_plan.specs.Planning.{with_all}
 use Rattle.theory_change.proofs.Line.{Line, Partition, Own}
 use Rattle.theory_change.proofs.Repaired.{Mendable, Pending}
 use Rattle.theory_change.proofs.Rewritten.{Sound}
 use Rattle.laws.specs.Totals.{indicator, total}
 use Rattle.theory_shapes.proofs.Bare.{bare}
 use Rattle.theory_shapes.proofs.Next.{repaired_by}
-use Rattle.theory_tree.proofs.Cut.{cut}
 use Rattle.theory_tree.specs.Pairs.{pairs}
 use Rattle.theory_tree.proofs.Replace.{holds_frame}
 use Rattle.theory_tree.specs.Represent.{Holds}

@@ -6,7 +6,7 @@ use mathlib.Core.Bool.{Bool, false}
 use Prim.Native.Nat.{ℕ, ◌+◌, ◌≤◌, ◌<◌}
 use lib.ListN.{length, set}
 use Rattle.card.specs.NodeWords.{OnCard}
-use Rattle.card.specs.Stores.{Store, stores}
+use Rattle.card.specs.Stores.{Store}
 use Rattle.card.proofs.Stores.{play, Within}
 use Rattle.change_layout.specs.Mending.{next_repair}
 use Rattle.change_plan.specs.Planning.{with_all, prepared}
@@ -15,7 +15,6 @@ use Rattle.theory_change.proofs.Rewritten.{Sound}
 use Rattle.laws.specs.Totals.{indicator, total}
 use Rattle.theory_shapes.proofs.Bare.{bare}
 use Rattle.theory_shapes.proofs.Next.{repaired_by}
-use Rattle.theory_tree.proofs.Cut.{cut}
 use Rattle.theory_tree.specs.Pairs.{pairs}
 use Rattle.theory_tree.proofs.Path.{depth_of, reserve, Violation}
 use Rattle.theory_tree.specs.Represent.{Holds}

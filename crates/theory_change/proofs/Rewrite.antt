@@ -7,7 +7,6 @@ use lib.ListN.{length}
 use Rattle.card.specs.Stores.{NewNode}
 use Rattle.card.proofs.Stores.{AllHaveWords}
 use Rattle.laws.specs.Totals.{total}
-use Rattle.theory_tree.proofs.Cut.{cut}
 use Rattle.theory_tree.specs.Pairs.{pairs}
 use Rattle.theory_tree.proofs.Pairs.{InRange}
 use Rattle.theory_tree.proofs.Path.{own_violation}

@@ -10,7 +10,7 @@ use borrow.Author.Tests.{ltb-false, le-ltb, eqb-true, eqb-false, ne_eqb, eq-eqb}
 use Rattle.card.specs.Layout.{node_at, kind_of, key_words, value_words, children, slot_pairs, leaf_pairs}
 use Rattle.laws.specs.Cases.{pick}
 use Rattle.laws.proofs.Cases.{impossible}
-use Rattle.card_check.specs.Check.{Findings, leaf_sound, unused_zero, Look, look_of, noted, enter_leaf, inner_sound, enter_inner, enter_kind, enter_node, bad, inner, leaf as leaf-look}
+use Rattle.card_check.specs.Check.{Findings, leaf_sound, unused_zero, Look, look_of, noted, enter_leaf, inner_sound, enter_inner, enter_kind, enter_node, bad, inner, leaf as leaf_look}
 use Rattle.theory_check.proofs.Found.{taken, note}
 use Rattle.theory_tree.specs.Represent.{kind}
 use Rattle.card_check.specs.declared.Entry.{Entry}
@@ -20,12 +20,12 @@ use Rattle.card_check.proofs.CheckLaws.{enter_kind_leaf}
 -- the looks with which the check goes on
 abbrev pub Accepted : Look → Type 0
 Accepted bad = ⊥
-Accepted (leaf-look f) = Unit
+Accepted (leaf_look f) = Unit
 Accepted (inner c f) = Unit
 
 not_bad : (L : Look) → Accepted L → bad ≡ L → ⊥
 not_bad bad a e = a
-not_bad (leaf-look f) a e = impossible (cc)
+not_bad (leaf_look f) a e = impossible (cc)
 not_bad (inner c f) a e = impossible (cc)
 
 passes : (b : Bool) (x L : Look) → Accepted L → pick b x bad ≡ L → (b ≡ true) × (x ≡ L)
@@ -82,17 +82,17 @@ pub record InnerEntry (words : List ℕ) (tagged is_root violated : Bool) : Type
 
 -- the looks that a node can give, and when
 pub data Enters (c : List ℕ) (n m low high run : ℕ) (is_root : Bool) (f : Findings) : Look → Type 0 where
-  as_leaf : Present c n m f → LeafEntry (node_at c m) low high is_root f.violated → Enters c n m low high run is_root f (leaf-look (note (few_pairs is_root (node_at c m)) low 0 (taken m f)))
+  as_leaf : Present c n m f → LeafEntry (node_at c m) low high is_root f.violated → Enters c n m low high run is_root f (leaf_look (note (few_pairs is_root (node_at c m)) low 0 (taken m f)))
   as_inner : (tagged : Bool) → Present c n m f → InnerEntry (node_at c m) tagged is_root f.violated
       → Enters c n m low high run is_root f (inner (width (node_at c m)) (note (tagged || ltb (width (node_at c m)) 2) low (pick tagged run 0) (taken m f)))
 
 -- ---- what an accepted look shows
 
 leaf_look_shown : (words : List ℕ) (low high : ℕ) (is_root : Bool) (f : Findings) (L : Look) → Accepted L → kind_of words ≡ 1 → enter_leaf words low high is_root f ≡ L
-    → LeafEntry words low high is_root f.violated × (leaf-look (note (few_pairs is_root words) low 0 f) ≡ L)
+    → LeafEntry words low high is_root f.violated × (leaf_look (note (few_pairs is_root words) low 0 f) ≡ L)
 unfolding enter_leaf leaf_pairs look_of
 leaf_look_shown words low high true f L a k e =
-    let p = passes (leaf_sound low high (key_words words)) (leaf-look f) L a e in
+    let p = passes (leaf_sound low high (key_words words)) (leaf_look f) L a e in
     (record { kind_is = k; sound = p.0; filled = λ z. impossible (cc); first = λ z. impossible (cc) }, p.1)
 leaf_look_shown words low high false f L a k e =
     let p = passes (leaf_sound low high (key_words words)) (pick (eqb (pairs_in words) 0) bad (noted (ltb (pairs_in words) 2) Leaf f low 0)) L a e in
@@ -114,7 +114,7 @@ inner_look_shown words tagged low run is_root f L a k e =
     (record { kind_is = k; filled = omega arith; unused = q.0; sound = s.0; first = r.0 }, r.1)
 
 enters_leaf : {c : List ℕ} {n m low high run : ℕ} {is_root : Bool} {f : Findings} {L : Look} → Present c n m f
-    → LeafEntry (node_at c m) low high is_root f.violated × (leaf-look (note (few_pairs is_root (node_at c m)) low 0 (taken m f)) ≡ L) → Enters c n m low high run is_root f L
+    → LeafEntry (node_at c m) low high is_root f.violated × (leaf_look (note (few_pairs is_root (node_at c m)) low 0 (taken m f)) ≡ L) → Enters c n m low high run is_root f L
 enters_leaf {c} {n} {m} {low} {high} {run} {is_root} {f} {L} h p =
     subst (λ (x : Look). Enters c n m low high run is_root f x) p.1 (as_leaf h p.0)
 
@@ -161,7 +161,7 @@ enter_shown c n m low high run is_root f L a e =
 -- ---- and conversely
 
 leaf_accepted : (words : List ℕ) (low high : ℕ) (is_root : Bool) (f : Findings) → LeafEntry words low high is_root f.violated
-    → enter_leaf words low high is_root f ≡ leaf-look (note (few_pairs is_root words) low 0 f)
+    → enter_leaf words low high is_root f ≡ leaf_look (note (few_pairs is_root words) low 0 f)
 unfolding enter_leaf leaf_pairs look_of
 leaf_accepted words low high true f h = rw h.sound
 leaf_accepted words low high false f h =

@@ -19,7 +19,7 @@ use Rattle.laws.specs.Lists.{zero_after}
 use Rattle.laws.proofs.Lists.{zero_after_pad}
 use Rattle.laws.specs.Totals.{indicator}
 use Rattle.laws.proofs.Totals.{indicator_same}
-use Rattle.card_check.specs.Check.{Findings, unused_zero, enter_node, ChildCheck, children_check, raised, on_look, node_check, inner, leaf as leaf-look, range_end}
+use Rattle.card_check.specs.Check.{Findings, unused_zero, enter_node, ChildCheck, children_check, raised, on_look, node_check, inner, leaf as leaf_look, range_end}
 use Rattle.theory_check.proofs.Entering.{Present, pairs_in, few_pairs, width, Enters, enter_accepts, as_leaf, as_inner}
 use Rattle.theory_check.proofs.Found.{one_of_not, taken, note, violates, at_root, found, found_below, is_free, WidthsAt, own_at}
 use Rattle.theory_check.proofs.Leaves.{leaf_passes}
@@ -56,7 +56,7 @@ module _ (c : List ℕ) (n : ℕ) (len : length c ≡ 8 + 24 * n) where
       record { pos = w.on.pos; within = omega (arith, w.on.fits); free = bit_positive (get_or f.free m false) (omega (arith, indicator_same m)); last = node_word c m 23 (omega arith) ∙ w.last }
 
   leaf_enters : (is_root : Bool) (run low high h bound m : ℕ) (ks vs : List ℕ) (f : Findings) → SoundPart c is_root low high h bound f (leaf m ks vs)
-      → Enters c n m low high run is_root f (leaf-look (note (few_pairs is_root (node_at c m)) low 0 (taken m f))) × (few_pairs is_root (node_at c m) ≡ violates is_root (leaf m ks vs))
+      → Enters c n m low high run is_root f (leaf_look (note (few_pairs is_root (node_at c m)) low 0 (taken m f))) × (few_pairs is_root (node_at c m) ≡ violates is_root (leaf m ks vs))
   leaf_enters is_root run low high h bound m ks vs f p =
       let r = p.represents in
       let q : pairs_in (node_at c m) ≡ length (slot_pairs ks vs) = ap₂ (λ (a b : List ℕ). length (slot_pairs a b)) (leaf_keys c m ks vs r) (leaf_values c m ks vs r) in
@@ -115,7 +115,7 @@ module _ (c : List ℕ) (n : ℕ) (len : length c ≡ 8 + 24 * n) where
   unfolding on_look
   look_passes child bound ih is_root run low high h f (leaf m ks vs) p =
       let e = leaf_enters is_root run low high h (suc bound) m ks vs f p in
-      rw (enter_accepts c n m low high run is_root f (leaf-look (note (few_pairs is_root (node_at c m)) low 0 (taken m f))) e.0)
+      rw (enter_accepts c n m low high run is_root f (leaf_look (note (few_pairs is_root (node_at c m)) low 0 (taken m f))) e.0)
       (ap₂ (λ (x : ℕ) (b : Bool). some (x, note b low 0 (taken m f))) (sym p.height) e.1)
   look_passes child bound ih is_root run low high h f (node m g k) p =
       let q = node_part is_root run m g p in

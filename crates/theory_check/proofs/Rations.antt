@@ -35,10 +35,10 @@ mutual
 
 -- "on every balanced tree with h internal levels, h at least 1, there are at least 2 to the power (h + 1) pairs"
 pub balanced_pairs : (h : ℕ) (t : Tree) → Height h t → RootOk t → table_violations t ≡ 0 → 1 ≤ h → 2 ^ suc h ≤ length (pairs t)
-balanced_pairs h (leaf m ks vs) i r e one-level = absurd (omega arith)
-balanced_pairs h (node m true f) i r e one-level = absurd r
-balanced_pairs zero (node m false f) i r e one-level = absurd i
-balanced_pairs (suc h) (node m false f) i r e one-level = (children_pairs h f i e).1 r.0
+balanced_pairs h (leaf m ks vs) i r e one_level = absurd (omega arith)
+balanced_pairs h (node m true f) i r e one_level = absurd r
+balanced_pairs zero (node m false f) i r e one_level = absurd i
+balanced_pairs (suc h) (node m false f) i r e one_level = (children_pairs h f i e).1 r.0
 
 -- "a balanced line of n pairs, n at least 4, has depth h with 2 to the power (h + 1) at most n"
 pub pairs_bound_levels : (h : ℕ) (t : Tree) → Height h t → RootOk t → table_violations t ≡ 0 → 4 ≤ length (pairs t) → 2 ^ suc h ≤ length (pairs t)

@@ -21,7 +21,7 @@ use Rattle.laws.proofs.Lists.{before_zero_take, get_d_zero_after}
 use Rattle.laws.specs.Lists.{zero_after}
 use Rattle.laws.specs.Totals.{indicator}
 use Rattle.laws.proofs.Totals.{indicator_other, indicator_le}
-use Rattle.card_check.specs.Check.{Findings, unused_zero, Look, enter_node, ChildCheck, children_check, raised, on_look, node_check, bad, inner, leaf as leaf-look, range_end}
+use Rattle.card_check.specs.Check.{Findings, unused_zero, Look, enter_node, ChildCheck, children_check, raised, on_look, node_check, bad, inner, leaf as leaf_look, range_end}
 use Rattle.theory_check.proofs.Entering.{Present, few_pairs, LeafEntry, width, InnerEntry, Enters, enter_shown, as_leaf, as_inner}
 use Rattle.theory_check.proofs.Found.{one_of, taken, note, at_root, found, found_below, is_free, WidthsAt, own_at}
 use Rattle.theory_check.proofs.Leaves.{leaf_range}
@@ -226,7 +226,7 @@ module _ (c : List ℕ) (n : ℕ) (len : length c ≡ 8 + 24 * n) where
 
       look : (L : Look) → enter_node c n m low high run is_root f ≡ L → on_look (node_at c m) low high child run L ≡ some r → Shown c is_root run low high m (suc bound) f r
       look bad q e = absurd (none-ne-some r e)
-      look (leaf-look g) q e = entered (leaf-look g) (enter_shown c n m low high run is_root f (leaf-look g) tt q) e
+      look (leaf_look g) q e = entered (leaf_look g) (enter_shown c n m low high run is_root f (leaf_look g) tt q) e
       look (inner k g) q e = entered (inner k g) (enter_shown c n m low high run is_root f (inner k g) tt q) e
 
   -- an accepted part is sound

@@ -91,14 +91,14 @@ module _ (c : List ℕ) (n key : ℕ) (len : length c ≡ 8 + 24 * n) where
   way_step : (levels m : ℕ) (g : Bool) (C : Context) (l : Left) (s : Tree) (r : Right) → Represents c (node m g (fill l s r)) → Past key l → Short key r
       → way_from c n key (suc levels) (position_of C (node m g (fill l s r))) ≡ past (position_of C (node m g (fill l s r))) (way_from c n key levels (position_of (down C m g l r) s))
   unfolding position_of
-  way_step levels m g C l s r on past-left short-right =
+  way_step levels m g C l s r on past_left short_right =
       way_child levels m g (fill l s r) on (position_of C (node m g (fill l s r))) (position_node C (node m g (fill l s r)))
       ∙ ap (λ (q : Position). past (position_of C (node m g (fill l s r))) (way_from c n key levels q)) (arrive (position_of C (node m g (fill l s r))).link (position_link C (node m g (fill l s r))))
     where
       arrive : (link : ℕ) → link ≡ link_place C
           → position (root (child key (fill l s r))) (place m (12 + passed (routing (fill l s r)) key)) m (passed (routing (fill l s r)) key) link
           ≡ position (root s) (place m (12 + length (roots_left l))) m (length l) (link_place C)
-      arrive link e = rw (e, child_fill key l s r past-left short-right, passed_fill key l s r past-left short-right, length_roots_left l)
+      arrive link e = rw (e, child_fill key l s r past_left short_right, passed_fill key l s r past_left short_right, length_roots_left l)
 
   -- the way goes down to every part that the key leads to
   pub way_path : (levels : ℕ) (C : Context) (s : Tree) → Holds c (plug C s) → Leads key C

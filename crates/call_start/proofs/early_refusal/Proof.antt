@@ -2,7 +2,6 @@
 use mathlib.Core.Path.{◌≡◌, sym, ◌∙◌}
 use native.Mathlib.Omega.{arith}
 use lib.ListN.{length}
-use borrow.Author.Tests.{not-true, not-false}
 use Rattle.card.specs.Header.{header_refusal, Sized}
 use Rattle.call_start.proofs.StartLaws.{start_unsized, start_header, start_busy, start_no_line, start_no_key, start_none}
 use borrow.Author.Rules.{rules}

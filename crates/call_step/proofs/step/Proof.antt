@@ -3,7 +3,6 @@ use mathlib.Core.Bool.{true}
 use mathlib.Core.Path.{◌≡◌, refl, sym, ap, subst, ◌∙◌}
 use native.Mathlib.Omega.{arith}
 use lib.ListN.{length}
-use borrow.Author.Tests.{not-true, not-false}
 use Rattle.card.specs.Header.{header_refusal, Sized}
 use Rattle.card.specs.Lines.{seen}
 use Rattle.card.proofs.HeaderLaws.{sized_any}
