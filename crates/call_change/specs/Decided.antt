@@ -1,5 +1,5 @@
--- Document 01, "The changes", insert and delete: what an update decides in the leaf that its key leads to. `layOut` makes the change of
--- it, so that what is decided says nothing of free nodes (`next-decided`, proofs/Decided).
+-- Document 01, "The changes", insert and delete: what an update decides in the leaf that its key leads to. `lay_out` makes the change of
+-- it, so that what is decided says nothing of free nodes (`next_decided`, proofs/Decided).
 use Rattle.std.specs.Prelude.{Bool, List, ℕ, ◌+◌, get_or}
 use Rattle.card.specs.Layout.{node_at}
 use Rattle.change_layout.specs.LayOut.{lay_out}

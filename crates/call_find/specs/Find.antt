@@ -33,7 +33,7 @@ find_of greatest line card key =
     (pick (has_line card line) (find_in (seen line card) (nodes_of_length greatest (length card)) key) (FoundRefused 18)) (FoundRefused (card_refusal greatest card))
 
 -- Document 02, W-203: "the number of internal nodes on the given number's way when the call began, tagged ones counted. A refusal carries
--- none": 0 for every refusal of `findOf`
+-- none": 0 for every refusal of `find_of`
 unfoldable pub depth_in : List ℕ → ℕ → ℕ → ℕ
 depth_in card n key = pick (eqb key 0) 0 (depth_of (leaf_of (way card n key)))
 

@@ -75,11 +75,11 @@ pub mod FirstRows
 pub mod CardRows
 pub mod StartRows
 pub mod StepRows
--- DEMAND 3, `demand-3`, and what holds of every table that a list leaves
+-- DEMAND 3, `demand_3`, and what holds of every table that a list leaves
 pub mod PowerCuts
 -- what the calls plan is by the rules, on any card: the nodes given, where nodes stand, repairs, first changes
 pub mod PlannedNumbers
--- the first step of an update, and DEMAND 1 whole, `demand-1`
+-- the first step of an update, and DEMAND 1 whole, `demand_1`
 pub mod FirstSteps
 pub mod Standing
 pub mod PlannedRepairs
@@ -91,7 +91,7 @@ pub mod ByRules
 pub mod UpdatesByRules
 -- the stores of formatting
 pub mod Formatting
--- DEMAND 2, `demand-2`
+-- DEMAND 2, `demand_2`
 pub mod Dictionary
 -- laws of rows "in order"
 pub mod RowLaws

@@ -1,5 +1,5 @@
 -- WHAT THE PROGRAM `insert_check` PRINTS (document 02, W-209): of every dump and every key file, the text of the reason that holds.
--- `reason_text::check_text` is proved to make `checkText`, and the program writes that.
+-- The function `reason_text::check_text` is proved to make the text `check_text`, and the program writes that.
 use mathlib.Core.Path.{◌≡◌, ap, sym, ◌∙◌}
 use mathlib.Core.List.{List, ◌++◌}
 use mathlib.Core.Logic.{◌↔◌}

@@ -2,8 +2,8 @@
 -- it on beside their answers. It is the number of internal nodes on the given number's way when the call began, tagged ones counted. A
 -- refusal carries none."
 --
--- The depth stands beside the answer and not in it: the dictionary and the book are as they were. `findDepth` and `nextDepth` are what
--- the calls on this card for this number tell, `stepDepth` what the step on this card and state tells.
+-- The depth stands beside the answer and not in it: the dictionary and the book are as they were. `find_depth` and `next_depth` are what
+-- the calls on this card for this number tell, `step_depth` what the step on this card and state tells.
 use Rattle.std.specs.Prelude.{◌≡◌, List, ℕ, ◌<◌}
 use Rattle.std.proofs.Math.Option.{Option}
 use Rattle.card.specs.Layout.{key_limit}

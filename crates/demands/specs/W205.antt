@@ -1,7 +1,7 @@
 -- Document 02, W-205, "Cards wearing at the front": "From now on, after formatting and after opening, it begins at the node following
 -- the root's, going round. The named word of each step changes accordingly; the power-cut guarantee does not."
 --
--- Demands 1 and 2 say which node is taken for given last then (`search-first`) and that each node given is the next free one after
+-- Demands 1 and 2 say which node is taken for given last then (`search_first`) and that each node given is the next free one after
 -- the one given last, going round (`Makes.taken`). Here the two are put together, over all that may come between.
 use Rattle.std.specs.Prelude.{◌≡◌, List, [], ◌∷◌, ℕ}
 use Rattle.card.specs.Layout.{search_start}

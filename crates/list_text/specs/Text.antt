@@ -89,13 +89,13 @@ pair_room greatest = 22 * greatest
 abbrev pub zeros : ℕ → List ℕ
 zeros n = replicate n 0
 
--- the listing of such a dump as it is handed to the printing. It is `listDump greatest dump (card_room greatest)`: demands, ListText `handed-whole`
+-- the listing of such a dump as it is handed to the printing. It is `list_dump greatest dump (card_room greatest)`: demands, ListText `handed_whole`
 unfoldable pub listing_handed : ℕ → List ℕ → Listed
 listing_handed greatest dump =
     listing_told (summary_of (list_dump greatest dump (card_room greatest)) (zeros (pair_room greatest)))
     (lay_listed (list_dump greatest dump (card_room greatest)) (zeros (pair_room greatest))).words
 
--- its text, which the program prints for the greatest N that it is made for. It is `listText (list_dump greatest dump (card_room greatest))`: demands,
--- ListText `text-right`
+-- its text, which the program prints for the greatest N that it is made for. It is `list_text (list_dump greatest dump (card_room greatest))`: demands,
+-- ListText `text_right`
 unfoldable pub dump_text : ℕ → List ℕ → List ℕ
 dump_text greatest dump = list_text (listing_handed greatest dump)

@@ -1,5 +1,5 @@
 -- The state of document 01, "State, steps and free nodes", as words that the caller lends. Any words in the state block are
--- some state: `memoryIn` reads one off every list of words, so that no call has to trust what it is lent.
+-- some state: `memory_in` reads one off every list of words, so that no call has to trust what it is lent.
 use Rattle.std.specs.Prelude.{List, [], ◌∷◌, ◌++◌, ℕ, ◌+◌, get_or, take, drop, eqb}
 use Rattle.laws.specs.Cases.{pick}
 use Rattle.laws.specs.Lists.{before_zero}

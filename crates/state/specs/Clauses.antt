@@ -1,6 +1,6 @@
 -- What the calls promise of the state block lent to them, in the terms of their definitions. These are definitions.
 --
--- Every word of the block after a call is decided: by Blocks, and after a step by call_step/specs/StepBlocks. `memoryIn` of these words
+-- Every word of the block after a call is decided: by Blocks, and after a step by call_step/specs/StepBlocks. `memory_in` of these words
 -- is what the call's definition hands back.
 use Rattle.std.specs.Prelude.{◌≡◌, List, ℕ, length}
 use Rattle.card.specs.Replies.{no_state}
@@ -24,7 +24,7 @@ pub record OpenCall (before after : List ℕ) (begun : Begun) (due : Handed) : T
   pub opened : length before ≡ state_words → Opened before after begun due
   pub no_state_lem : (length before ≡ state_words → ⊥) → (begun ≡ BegunRefused no_state.code) × (after ≡ before)
 
--- starting an update, which is `doing` from then on; that a refusal leaves every word as it was is part of `startedBlock`
+-- starting an update, which is `doing` from then on; that a refusal leaves every word as it was is part of `started_block`
 pub record StartCall (before after : List ℕ) (begun : Begun) (doing : Doing) (due : Handed) : Type 0 where
   pub answered : length before ≡ state_words → begun ≡ due.begun
   pub handed : length before ≡ state_words → memory_in after ≡ due.memory

@@ -6,7 +6,7 @@ use Rattle.laws.specs.Cases.{pick}
 -- ---- a number in decimal
 
 -- the least number of digits, from k on, that hold n; the first number bounds the search, and n is enough (DecimalLaws,
--- `count-fewest`)
+-- `count_fewest`)
 unfoldable pub digits_from : ℕ → ℕ → ℕ → ℕ
 digits_from zero k n = k
 digits_from (suc more) k n = pick (ltb n (10 ^ k)) k (digits_from more (suc k) n)

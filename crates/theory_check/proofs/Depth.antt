@@ -96,7 +96,7 @@ table_depth (suc h) (node m false f) i r = omega (arith, depths_height h f i)
 pub depth_within : (h levels n : ℕ) (t : Tree) → suc n < 2 ^ levels → Height h t → RootOk t → table_violations t ≤ 1 → node_total (λ m. 1) t ≤ n → depth t ≤ levels
 depth_within h levels n t small i r v s = omega (arith, table_depth h t i r, height_below h levels n t small i r v s)
 
--- no way down a sound table of at most `greatestNodes` nodes is longer than `depthLimit`
+-- no way down a sound table of at most `greatest_nodes` nodes is longer than `depth_limit`
 pub depth_limited : (h : ℕ) (t : Tree) → Height h t → RootOk t → table_violations t ≤ 1 → node_total (λ m. 1) t ≤ greatest_nodes → depth t ≤ depth_limit
 depth_limited h t = depth_within h depth_limit greatest_nodes t (omega arith)
 

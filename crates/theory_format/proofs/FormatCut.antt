@@ -1,5 +1,5 @@
 -- Formatting cut: "Cut before its first store, it leaves the card alone; before its last store, opening refuses with 2." The first
--- is `format-untouched`.
+-- is `format_untouched`.
 use mathlib.Core.Path.{◌≡◌}
 use mathlib.Core.List.{List}
 use mathlib.Core.Logic.{◌≢◌}

@@ -6,5 +6,5 @@ pub mod FormatCard
 pub mod FormatSteps
 -- the table that formatting makes: "root node 1, an empty leaf, all else 0"
 pub mod FreshTable
--- formatting cut: "Cut before its first store, it leaves the card alone; before its last store, opening refuses with 2." The first is `format-untouched`
+-- formatting cut: "Cut before its first store, it leaves the card alone; before its last store, opening refuses with 2." The first is `format_untouched`
 pub mod FormatCut

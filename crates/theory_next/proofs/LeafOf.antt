@@ -1,4 +1,4 @@
--- The leaf that a number leads to, with its range: on the card, every number of the range leads to it, `besideAll` finds the part of the
+-- The leaf that a number leads to, with its range: on the card, every number of the range leads to it, `beside_all` finds the part of the
 -- tree that stands right after the way, and the leaf answers for the whole tree.
 use mathlib.Core.Path.{◌≡◌, refl, ap, sym, ◌∙◌, subst}
 use mathlib.Core.List.{List}

@@ -1,4 +1,4 @@
--- The pair that `leastAbove` finds in a list is the next one of that list.
+-- The pair that `least_above` finds in a list is the next one of that list.
 use mathlib.Core.Path.{refl, ◌∙◌}
 use mathlib.Core.List.{List, [], ◌∷◌}
 use mathlib.Core.Option.{Option, none, some}

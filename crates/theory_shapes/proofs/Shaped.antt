@@ -1,4 +1,4 @@
--- Each change commutes with forgetting the numbers: the part that it puts in place, without numbers, is what `mendAt` makes of the
+-- Each change commutes with forgetting the numbers: the part that it puts in place, without numbers, is what `mend_at` makes of the
 -- old part without numbers.
 use mathlib.Core.Path.{◌≡◌, refl, ap, sym, ◌∙◌}
 use mathlib.Core.List.{List, [], ◌∷◌, ◌++◌}
