@@ -109,7 +109,9 @@ put_now k = insert k (10 * k) ∷ step ∷ step ∷ step ∷ []
 
 -- S, and so many steps of the insert of key 12; then power goes
 abbrev pub cut_after : ℕ → List Event
-cut_after k = put_now 1 ++ put_now 2 ++ put_now 3 ++ put_now 4 ++ put_now 5 ++ put_now 6 ++ put_now 7 ++ put_now 8 ++ put_now 9 ++ put_now 10 ++ put_now 11 ++ insert 12 120 ∷ (replicate k step ++ cut ∷ [])
+cut_after k =
+    put_now 1 ++ put_now 2 ++ put_now 3 ++ put_now 4 ++ put_now 5 ++ put_now 6 ++ put_now 7 ++ put_now 8 ++ put_now 9 ++ put_now 10
+    ++ put_now 11 ++ insert 12 120 ∷ (replicate k step ++ cut ∷ [])
 
 -- formatted: "root node 1, an empty leaf, all else 0"
 abbrev pub formatted : World (ration_table greatest_nodes)

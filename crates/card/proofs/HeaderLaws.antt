@@ -130,7 +130,8 @@ module _ (card : List ℕ) (n : ℕ) where
         ne_eqb (get_or card 6 0) 0 wrong,
       )
 
-  pub wrong_word7 : get_or card 0 0 ≡ 1 → get_or card 1 0 ≡ n → get_or card 2 0 ≡ 8 → get_or card 3 0 ≡ 24 → get_or card 5 0 ≡ 0 → get_or card 6 0 ≡ 0 → (get_or card 7 0 ≡ 0 → ⊥) → header_refusal card n ≡ 3
+  pub wrong_word7 : get_or card 0 0 ≡ 1 → get_or card 1 0 ≡ n → get_or card 2 0 ≡ 8
+      → get_or card 3 0 ≡ 24 → get_or card 5 0 ≡ 0 → get_or card 6 0 ≡ 0 → (get_or card 7 0 ≡ 0 → ⊥) → header_refusal card n ≡ 3
   unfolding header_refusal
   wrong_word7 h0 h1 h2 h3 h5 h6 wrong =
       simp (

@@ -55,7 +55,9 @@ play_before (v ∷ ws) p c a h = play_before ws (suc p) _ a (omega arith) ∙ ge
 
 pub play_in : (ws : List ℕ) (p : ℕ) (c : List ℕ) (i : ℕ) → i < length ws → p + length ws ≤ length c → get_or (play (stores p ws) c) (p + i) 0 ≡ get_or ws i 0
 play_in [] p c i h l = absurd (omega arith)
-play_in (v ∷ ws) p c zero h l = ap (λ (a : ℕ). get_or (play (stores (suc p) ws) (set c p v)) a 0) (omega arith) ∙ play_before ws (suc p) (set c p v) p (omega arith) ∙ get_or-set_same c p v 0 (omega arith)
+play_in (v ∷ ws) p c zero h l =
+    ap (λ (a : ℕ). get_or (play (stores (suc p) ws) (set c p v)) a 0) (omega arith)
+    ∙ play_before ws (suc p) (set c p v) p (omega arith) ∙ get_or-set_same c p v 0 (omega arith)
 play_in (v ∷ ws) p c (suc i) h l = ap (λ (a : ℕ). get_or (play (stores (suc p) ws) (set c p v)) a 0) (omega arith) ∙ play_in ws (suc p) (set c p v) i (omega arith) (omega (arith, length-set c p v))
 
 module _ (k : ℕ) (a b : List ℕ) (ha : length a ≤ 11) (hb : length b ≤ 11) where

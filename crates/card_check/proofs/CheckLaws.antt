@@ -510,7 +510,8 @@ module _ (card : List ℕ) (n run : ℕ) (root : Bool) (low high m : ℕ) (f : F
         (routing_keys (node_at card m)) (children (node_at card m)) g (omega (arith, k.counted, k.some_child))))
 
     pub check_inner : (levels ≡ 0 → ⊥) → node_check levels card n run root low high m f
-        ≡ raised (eqb (kind_of (node_at card m)) 3) (children_check (node_check (levels - 1) card n (run_below c run) false) true 0 low high (routing_keys (node_at card m)) (children (node_at card m)) g)
+        ≡ raised (eqb (kind_of (node_at card m)) 3) (children_check (node_check (levels - 1) card n (run_below c run) false) true 0 low high
+        (routing_keys (node_at card m)) (children (node_at card m)) g)
     unfolding node_check on_look
     check_inner p = ap (λ (x : ℕ). node_check x card n run root low high m f) (let z : levels ≡ suc (levels - 1) = omega arith in z) ∙ go (levels - 1)
       where

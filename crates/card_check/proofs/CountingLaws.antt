@@ -17,7 +17,8 @@ use Rattle.card.specs.Layout.{node_at, kind_of, key_words, value_words, children
 use Rattle.card.proofs.NodeLaws.{length_key_words, length_value_words}
 use Rattle.card_family.specs.Families.{family_count, family_size, family_of, no_totals, counted_in, several_in}
 use Rattle.card_family.proofs.FamilyLaws.{one_family, several_none, several_more}
-use Rattle.card_check.specs.Check.{member, slot_sound, leaf_sound, Findings, findings_of, checked_of, raised, look_of, Looks, enter_leaf, enter_inner, noted, inner_sound, unused_zero, bad, leaf, inner}
+use Rattle.card_check.specs.Check.{member, slot_sound, leaf_sound, Findings, findings_of, checked_of, raised, look_of, Looks, enter_leaf}
+use Rattle.card_check.specs.Check.{enter_inner, noted, inner_sound, unused_zero, bad, leaf, inner}
 use Rattle.card_check.specs.Counting.{keys_counted, children_counted, node_counted, EntryCounts}
 use Rattle.card_check.specs.declared.Checked.{Checked}
 use Rattle.card_check.specs.declared.Checked.TheVariants.{Unsound, Sound}

@@ -66,6 +66,7 @@ module _ (line : ℕ) (card : List ℕ) where
   unfolding node_counted
   counted_seen zero m totals = rw (seen_node line card m)
   counted_seen (suc levels) m totals =
-      ap (λ (node : List ℕ). pick (eqb (kind_of node) 1) (keys_counted (key_words node) totals) (children_counted (node_counted levels (seen line card)) (children node) totals)) (seen_node line card m)
+      ap (λ (node : List ℕ). pick (eqb (kind_of node) 1) (keys_counted (key_words node) totals)
+      (children_counted (node_counted levels (seen line card)) (children node) totals)) (seen_node line card m)
       ∙ ap (pick (eqb (kind_of (node_at card m)) 1) (keys_counted (key_words (node_at card m)) totals))
       (count_same (node_counted levels (seen line card)) (node_counted levels card) (counted_seen levels) (children (node_at card m)) totals)

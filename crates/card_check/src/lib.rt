@@ -64,7 +64,7 @@ fn child_run(c: usize, run: u32) -> u32
 // The answer for the children as the answer for their parent, which is one level higher where it is not tagged.
 fn raise(r: Checked, tagged: bool) -> Checked
     requires { height_of r < depth_limit }
-    ensures f_value { (f : Findings) → checked_of result f ≡ raised tagged (checked_of r f) }
+    ensures checked { (f : Findings) → checked_of result f ≡ raised tagged (checked_of r f) }
     ensures result_bound { height_of result ≤ height_of r + 1 }
 {
     match r {

@@ -12,7 +12,8 @@ use Rattle.laws.specs.Lists.{all_zero}
 use Rattle.card.specs.Layout.{least_nodes, greatest_nodes, limited}
 use Rattle.card.specs.Header.{nodes_of_length, card_refusal, Sized, Formatted}
 use Rattle.card.proofs.HeaderLaws.{limited_most, limited_within, within_limited, nodes_sized, header_formatted, card_no_length, card_header}
-use Rattle.card_dump.specs.Dump.{padded_length, dump_of, dump_words, words_for, greatest_dump, dump_nodes, faults, any, damaged, fitting_length, lent_after, read_answer, read_over, write_answer, write_over}
+use Rattle.card_dump.specs.Dump.{padded_length, dump_of, dump_words, words_for, greatest_dump, dump_nodes, faults, any, damaged}
+use Rattle.card_dump.specs.Dump.{fitting_length, lent_after, read_answer, read_over, write_answer, write_over}
 use Rattle.card_dump.specs.declared.Answer.{Answer}
 use Rattle.card_dump.specs.declared.Answer.TheVariants.{Length, Refused}
 

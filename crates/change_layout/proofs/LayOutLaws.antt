@@ -57,7 +57,8 @@ over_three : (card : List ℕ) (d : Decision) (a b c : ℕ) (free : List Bool) (
     → prepared (zip (places_by d (a ∷ b ∷ c ∷ [])) (words_by card d (a ∷ b ∷ c ∷ []))) (without_all (take (needed d) (a ∷ b ∷ c ∷ [])) free)
     (last_of last (take (needed d) (a ∷ b ∷ c ∷ []))) (cut_by card d)
     ≡ lay_out card d free last
-unfolding outcome_of needed store_count cut_by places_by words_by lay_out without_all last_of zip zip_with change_places change_length split_leaf absorb split_parent share halves copied merge merge_root
+unfolding outcome_of needed store_count cut_by places_by words_by lay_out without_all last_of zip zip_with change_places change_length
+    split_leaf absorb split_parent share halves copied merge merge_root
 over_three card Refused a b c free last o w e = impossible (cc)
 over_three card Balanced a b c free last o w e = impossible (cc)
 over_three card (PutPair m i key value) a b c free last o w e = refl

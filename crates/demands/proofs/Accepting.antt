@@ -137,7 +137,8 @@ accepted_openable greatest c t a w = go (sound_accepted c (nodes_of_length great
         room =
             order (count_true f.free) (3 + f.run)
             (λ o. absurd (refuses greatest c 5 (open_unrefused greatest c k.0 ∙ ap (open_checked (nodes_of_length greatest (length c)) (search_start c) (table_counted c)) e
-            ∙ open_some (nodes_of_length greatest (length c)) (search_start c) (table_counted c) h f ∙ open_scarce (nodes_of_length greatest (length c)) (search_start c) (table_counted c) f o) a)) (λ o. o)
+            ∙ open_some (nodes_of_length greatest (length c)) (search_start c) (table_counted c) h f
+            ∙ open_scarce (nodes_of_length greatest (length c)) (search_start c) (table_counted c) f o) a)) (λ o. o)
 
         counted : count_true f.free + size t ≡ nodes_of_length greatest (length c)
         counted =

@@ -91,7 +91,8 @@ reads_finds key (k ∷ keys) values i =
 pub finds : (greatest : ℕ) (c : List ℕ) (key : ℕ) → ByRows (find_rows greatest c key) (λ r. (ration_table greatest).find c key ≡ refusal r) (ReadsLeaf c key ((ration_table greatest).find c key))
 unfolding ByRows found_at found_reply arrived reached_leaf
 finds greatest c key =
-    by_card greatest (row 6 (key ≡ 0) (row 9 (leads_to c key ≡ none) end)) (λ r. found_reply (find_of greatest 1 c key) ≡ refusal r) (ReadsLeaf c key (found_reply (find_of greatest 1 c key))) c (nodes_on c)
+    by_card greatest (row 6 (key ≡ 0) (row 9 (leads_to c key ≡ none) end)) (λ r. found_reply (find_of greatest 1 c key) ≡ refusal r)
+    (ReadsLeaf c key (found_reply (find_of greatest 1 c key))) c (nodes_on c)
     (λ p. find_due greatest c key 1 (card_one greatest c p) (λ z. omega (arith, z)))
     (λ r s e d. find_due greatest c key r (length_accepted greatest c (nodes_on c) s ∙ e) d)
     past

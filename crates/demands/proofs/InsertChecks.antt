@@ -81,7 +81,8 @@ no_empty_slot leaf eleven =
     bool_cases (among 0 (key_words leaf)) (λ q. absurd (omega (arith, eleven, pairs_fewer (key_words leaf) (value_words leaf) q, length-take 11 (drop 1 leaf)))) (λ q. q)
 
 -- an insert is refused with 8, by its reply
-refused_eight : (greatest : ℕ) (c : List ℕ) (m : Memory) (key value : ℕ) → (start_reply (insert_of greatest 1 c m key value).begun ≡ refusal 8) ↔ (insert_of greatest 1 c m key value ≡ start_refused 8 m)
+refused_eight : (greatest : ℕ) (c : List ℕ) (m : Memory) (key value : ℕ)
+    → (start_reply (insert_of greatest 1 c m key value).begun ≡ refusal 8) ↔ (insert_of greatest 1 c m key value ≡ start_refused 8 m)
 unfolding start_refused start_reply happens reply_to
 refused_eight greatest c m key value = (to, λ e. ap (λ (h : Handed). start_reply h.begun) e)
   where

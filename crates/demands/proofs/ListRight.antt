@@ -86,7 +86,8 @@ module _ (greatest : ℕ) (dump : List ℕ) where
   read_room : damaged greatest dump ≡ false → list_dump greatest dump (card_room greatest) ≡ list_card greatest (dump_words (words_for (dump_nodes dump)) dump)
   read_room q =
       let size = words_for (dump_nodes dump) in
-      dump_read greatest dump (card_room greatest) size (read_whole greatest dump (card_room greatest) q ∙ room_long size (card_room greatest) (omega (arith, (undamaged_whole greatest dump q).within)))
+      dump_read greatest dump (card_room greatest) size (read_whole greatest dump (card_room greatest) q
+      ∙ room_long size (card_room greatest) (omega (arith, (undamaged_whole greatest dump q).within)))
 
   of_dump : ByRows (row 11 (Damaged greatest dump) end) (λ r. dump_text greatest dump ≡ list_text (refused r))
       (dump_text greatest dump ≡ list_text (list_card greatest (dump_words (words_for (dump_nodes dump)) dump)))
@@ -98,7 +99,8 @@ module _ (greatest : ℕ) (dump : List ℕ) where
       ))
       (λ q. inr (λ z. true_false (sym ((damaged_exactly greatest dump).0 z) ∙ q), text_right greatest dump ∙ ap list_text (read_room q)))
 
-own : (greatest : ℕ) (c : List ℕ) → ((i : ℕ) → get_or c i 0 < 2 ^ 32) → Sized greatest (length c) (nodes_on c) → Formatted c (nodes_on c) → dump_text greatest (dump_of c) ≡ list_text (list_card greatest c)
+own : (greatest : ℕ) (c : List ℕ) → ((i : ℕ) → get_or c i 0 < 2 ^ 32) → Sized greatest (length c) (nodes_on c) → Formatted c (nodes_on c)
+    → dump_text greatest (dump_of c) ≡ list_text (list_card greatest c)
 own greatest c fits s f =
     let e = sized_nodes greatest (length c) (nodes_on c) s in
     let good : Good greatest c = record { sized = rw e s; header = rw e f } in

@@ -262,7 +262,8 @@ format_ready_inv greatest c n made s (delete key ∷ qs) w e h u q =
 format_ready_inv greatest c n made s (cut ∷ qs) w e h u q = absurd u.0
 
 -- the card and the state at "ready", whatever the card held before
-pub fresh_world : (greatest : ℕ) (c : List ℕ) (qs : List Event) → ((ration_table greatest).format c).reply ≡ startedReply → LeftUncut (ration_table greatest) qs (format_begun (ration_table greatest) c)
+pub fresh_world : (greatest : ℕ) (c : List ℕ) (qs : List Event) → ((ration_table greatest).format c).reply ≡ startedReply
+    → LeftUncut (ration_table greatest) qs (format_begun (ration_table greatest) c)
     → reply_to (ration_table greatest) step (run (ration_table greatest) qs (format_begun (ration_table greatest) c)) ≡ ready
     → Sized greatest (length c) (nodes_of_length greatest (length c))
     × (happens (ration_table greatest) step (run (ration_table greatest) qs (format_begun (ration_table greatest) c))

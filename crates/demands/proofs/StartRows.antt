@@ -130,7 +130,8 @@ started_is greatest c m doing room key e =
     never : (r : ℕ) → ◌≡◌ {A = Begun} (BegunRefused r) Started → ⊥
     never r y = impossible (cc)
 
-    at : (l : Landing) → (start_landed m doing (start_depth 1 c m key) (room l) l).begun ≡ Started → start_landed m doing (start_depth 1 c m key) (room l) l ≡ start_accepted m doing (start_depth 1 c m key)
+    at : (l : Landing) → (start_landed m doing (start_depth 1 c m key) (room l) l).begun ≡ Started
+        → start_landed m doing (start_depth 1 c m key) (room l) l ≡ start_accepted m doing (start_depth 1 c m key)
     at NoLanding y = absurd (never 9 y)
     at (LandingAt node link run) y = bool_cases (room (LandingAt node link run)) (λ k. rw k) (λ k. absurd (never 8 (rw k at y)))
 

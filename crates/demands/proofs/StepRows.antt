@@ -73,7 +73,13 @@ final_idle greatest a c m (inr (inl (v, e))) =
       idle_then = refl;
       all_kept = record { nodes_kept = refl; free_kept = refl; last_kept = refl };
     }
-final_idle greatest a c m (inr (inr e)) = record { final = inr (inr (ap step_reply e)); same_card = refl; idle_then = refl; all_kept = record { nodes_kept = refl; free_kept = refl; last_kept = refl } }
+final_idle greatest a c m (inr (inr e)) =
+    record {
+      final = inr (inr (ap step_reply e));
+      same_card = refl;
+      idle_then = refl;
+      all_kept = record { nodes_kept = refl; free_kept = refl; last_kept = refl };
+    }
 
 -- a store leaves N and the work in hand
 pub advanced_nodes : (m : Memory) (rest : List Store) → (advanced m rest).nodes ≡ m.nodes

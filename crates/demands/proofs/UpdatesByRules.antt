@@ -81,7 +81,8 @@ checked_doing n last totals (some r) = sound_doing n last totals r.1
 open_doing : (greatest : ℕ) (c : List ℕ) → OpenDoing (open_of greatest c)
 unfolding open_of
 open_doing greatest c =
-    bool_cases (eqb (card_refusal greatest c) 0) (λ q. rw q (checked_doing (nodes_of_length greatest (length c)) (search_start c) (table_counted c) (table_check c (nodes_of_length greatest (length c)))))
+    bool_cases (eqb (card_refusal greatest c) 0) (λ q. rw q
+    (checked_doing (nodes_of_length greatest (length c)) (search_start c) (table_counted c) (table_check c (nodes_of_length greatest (length c)))))
     (λ q. rw q (none_doing (card_refusal greatest c) (card_small greatest c)))
 
 -- a change that is given nodes is not nothing

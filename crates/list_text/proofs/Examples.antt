@@ -11,7 +11,8 @@ example_text :
     list_text (listed (record { nodes = 4; free = 3; levels = 0; families = 2 ∷ replicate 15 0; pairs = (3, 31) ∷ (7, 70) ∷ [] }))
     ≡ (110 ∷ 111 ∷ 100 ∷ 101 ∷ 115 ∷ 32 ∷ 52 ∷ 32 ∷ 102 ∷ 114 ∷ 101 ∷ 101 ∷ 32 ∷ 51 ∷ 32 ∷ 108 ∷ 101 ∷ 118 ∷ 101 ∷ 108 ∷ 115 ∷ 32 ∷ 48 ∷ 32
     ∷ 112 ∷ 97 ∷ 105 ∷ 114 ∷ 115 ∷ 32 ∷ 50 ∷ 10 ∷ []) ++ (102 ∷ 97 ∷ 109 ∷ 105 ∷ 108 ∷ 121 ∷ 32 ∷ 48 ∷ 32 ∷ 50 ∷ 10 ∷ []) ++ (51 ∷ 32 ∷ 51 ∷ 49 ∷ 10 ∷ []) ++ (55 ∷ 32 ∷ 55 ∷ 48 ∷ 10 ∷ [])
-unfolding list_text first_line family_lines family_lines_from family_shown family_line pair_lines pair_line nodes_word free_word levels_word pairs_word family_word space line_feed decimal digit_count digits_from
+unfolding list_text first_line family_lines family_lines_from family_shown family_line pair_lines pair_line nodes_word free_word levels_word
+    pairs_word family_word space line_feed decimal digit_count digits_from
 example_text = refl
 
 -- "refused 11"

@@ -66,7 +66,8 @@ pairs_end words i h = few (drop i words) (omega (arith, length-drop i words))
     few (key ∷ []) l = refl
     few (key ∷ value ∷ ws) l = absurd (omega arith)
 
-pub lines_next : (words : List ℕ) (i at : ℕ) (row : List ℕ) {r : ℕ} {after : List ℕ} → i + 1 < length words → filled r after ≡ fill (pair_line (get_or words i 0) (get_or words (i + 1) 0)) (filled at row)
+pub lines_next : (words : List ℕ) (i at : ℕ) (row : List ℕ) {r : ℕ} {after : List ℕ} → i + 1 < length words
+    → filled r after ≡ fill (pair_line (get_or words i 0) (get_or words (i + 1) 0)) (filled at row)
     → fill (pair_lines (pairs_of_words (drop i words))) (filled at row) ≡ fill (pair_lines (pairs_of_words (drop (i + 2) words))) (filled r after)
 unfolding pair_lines
 lines_next words i at row h e =

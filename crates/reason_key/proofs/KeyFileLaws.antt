@@ -53,7 +53,8 @@ unfolding has_feed
 feed_none text at h = rw (drop_of_length-le text {i = at} h)
 
 -- a byte more before those that hold no line feed
-pub feed_not_here : (text : List ℕ) (place at : ℕ) → at ≡ suc place → at ≤ length text → (get_or text place 0 ≡ line_feed_byte → ⊥) → has_feed (drop at text) ≡ false → has_feed (drop place text) ≡ false
+pub feed_not_here : (text : List ℕ) (place at : ℕ) → at ≡ suc place → at ≤ length text
+    → (get_or text place 0 ≡ line_feed_byte → ⊥) → has_feed (drop at text) ≡ false → has_feed (drop place text) ≡ false
 unfolding has_feed
 feed_not_here text place at e h d n =
     let after : has_feed (drop (suc place) text) ≡ false = rw e at n in

@@ -440,7 +440,8 @@ one_line block len =
     drop-set-add totals_at block family_count 0
     ∙ ap (λ (l : List ℕ). set l family_count 0) (sym (take-append-drop family_count (drop totals_at block)) ∙ ap (λ (l : List ℕ). part block totals_at family_count ++ l)
     (drop-drop family_count totals_at block ∙ drop-cons block lines_at 0 (omega arith)))
-    ∙ set_at (part block totals_at family_count) (drop back_at block) (get_or block lines_at 0) family_count (omega (arith, length-take family_count (drop totals_at block), length-drop totals_at block))
+    ∙ set_at (part block totals_at family_count) (drop back_at block) (get_or block lines_at 0) family_count
+    (omega (arith, length-take family_count (drop totals_at block), length-drop totals_at block))
   where
     set_at : (xs ys : List ℕ) (y i : ℕ) → length xs ≡ i → set (xs ++ y ∷ ys) i 0 ≡ xs ++ 0 ∷ ys
     set_at [] ys y i e = ap (λ (k : ℕ). set (y ∷ ys) k 0) (sym e)

@@ -119,8 +119,8 @@ fn doing_in(what: u32, a: u32, b: u32, c: u32) -> Doing
 
 // Whether nothing is being done. Any number that is none of the four is idle, and in a block that is no state nothing is being done.
 pub fn is_idle(state: &[u32]) -> bool
-    ensures value { length state.now ≡ state_words → result ≡ is_idle (memory_in state.now).doing }
-    ensures value_2 { (length state.now ≡ state_words → ⊥) → result ≡ true }
+    ensures of_state { length state.now ≡ state_words → result ≡ is_idle (memory_in state.now).doing }
+    ensures of_no_state { (length state.now ≡ state_words → ⊥) → result ≡ true }
 {
     if state.len() != STATE_WORDS {
         return true;
@@ -134,8 +134,8 @@ pub fn is_idle(state: &[u32]) -> bool
 
 // The internal nodes on the key's way of the update begun last, as it was then (document 02, W-203). A block that is no state has none.
 pub fn depth_kept(state: &[u32]) -> u32
-    ensures value { length state.now ≡ state_words → result ≡ (memory_in state.now).depth }
-    ensures value_2 { (length state.now ≡ state_words → ⊥) → result ≡ 0 }
+    ensures of_state { length state.now ≡ state_words → result ≡ (memory_in state.now).depth }
+    ensures of_no_state { (length state.now ≡ state_words → ⊥) → result ≡ 0 }
 {
     if state.len() != STATE_WORDS {
         return 0;
@@ -246,9 +246,9 @@ pub fn store_totals(block: &mut [u32], totals: &[u32])
 // The search for a free node begins after `last`, the node taken for given last.
 pub fn store_resting(block: &mut [u32], n: usize, last: u32, doing: Doing)
     requires { (length block.old ≡ state_words) × (n ≤ greatest_nodes) }
-    ensures block_after { block.new ≡ resting_block block.old (resting n (nodes_of (part block.old free_at word_count)) last
+    ensures words_after { block.new ≡ resting_block block.old (resting n (nodes_of (part block.old free_at word_count)) last
         (part block.old totals_at family_count) doing) }
-    ensures block_after_2 { memory_in block.new ≡ resting n (nodes_of (part block.old free_at word_count)) last
+    ensures memory_after { memory_in block.new ≡ resting n (nodes_of (part block.old free_at word_count)) last
         (part block.old totals_at family_count) doing }
 {
     block[LINES] = 0;

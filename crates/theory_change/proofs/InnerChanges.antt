@@ -176,7 +176,8 @@ module _ (x : ℕ) (fx : Forest) (k y : ℕ) (fy : Forest) where
         represented = λ c i h. parted_represented n both L key R q a b c l11 r11 h.0 h.1.0 (joined_represented c i);
       }
 
-  merge_exchange : 1 ≤ length (roots both) → length (roots both) ≤ 11 → (a : ℕ) → Exchange (inner_pair x fx k y fy) (one (node a false both)) (new_node a 2 (routing both) (roots both) ∷ []) (x ∷ y ∷ [])
+  merge_exchange : 1 ≤ length (roots both) → length (roots both) ≤ 11 → (a : ℕ)
+      → Exchange (inner_pair x fx k y fy) (one (node a false both)) (new_node a 2 (routing both) (roots both) ∷ []) (x ∷ y ∷ [])
   merge_exchange h1 h11 a =
       record {
         range = λ lo hi z i. joined_range lo hi x fx k y fy i;

@@ -22,7 +22,8 @@ use Rattle.theory_change.proofs.Exchange.{Remains, OneViolation, together_le, Pa
 use Rattle.theory_shapes.proofs.Next.{tagged_in}
 use Rattle.theory_change.proofs.InnerChanges.{inner_pair, new_siblings, parted_nodes, tagged_child, Underfull, together}
 use Rattle.theory_change.proofs.Mending.{StandsAt, rewrite_at, giving_same, kind_above_lem, siblings_decide, share_made, merge_root_made, merge_made}
-use Rattle.theory_change.proofs.Siblings.{children_with_lem, routing_with, first_child, second_child, key_between_lem, two_represented, children_shared, routing_shared, children_merged, routing_merged}
+use Rattle.theory_change.proofs.Siblings.{children_with_lem, routing_with, first_child, second_child, key_between_lem, two_represented}
+use Rattle.theory_change.proofs.Siblings.{children_shared, routing_shared, children_merged, routing_merged}
 use Rattle.theory_tree.proofs.Reading.{read_kind, node_children, node_routing}
 use Rattle.theory_tree.specs.Represent.{kind, Represents}
 use Rattle.theory_tree.proofs.Represent.{link_place}

@@ -56,7 +56,8 @@ module _ (q : Position) (parent : List ℕ) (j : ℕ) (ps : Pairs) (C : Context)
   unfolding share halves copied left_keys key_between
   share_leaves a b c keys kids e f = rw (length_pair_values ps, keys_take, values_take, keys_drop, values_drop, key_at_row, e, f, ex, ey, el, ep)
 
-  merge_leaves : (a b : ℕ) (keys kids : List ℕ) → take j (routing_keys parent) ++ drop (suc j) (routing_keys parent) ≡ keys → take j (children parent) ++ a ∷ drop (suc (suc j)) (children parent) ≡ kids
+  merge_leaves : (a b : ℕ) (keys kids : List ℕ) → take j (routing_keys parent) ++ drop (suc j) (routing_keys parent) ≡ keys
+      → take j (children parent) ++ a ∷ drop (suc (suc j)) (children parent) ≡ kids
       → merge q parent j (rows_of ps) a b ≡ rewrite_at C (leaf_node a ps ∷ new_node b 2 keys kids ∷ []) b (p ∷ x ∷ y ∷ [])
   unfolding merge copied
   merge_leaves a b keys kids e f = rw (e, f, ex, ey, el, ep)

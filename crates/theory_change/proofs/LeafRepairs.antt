@@ -64,7 +64,8 @@ module _ (c : List ℕ) (n : ℕ) (long : length c ≡ 8 + 24 * n) (p x : ℕ) (
         part = _;
         out = _;
         planned = leaf_merge_plan c n long C p l x ks vs k y ks' vs' r w q at free last h g;
-        shaped = λ ms. leaf_merge_shaped (tagged_in C) l x ks vs k y ks' vs' r (second ms) (new_leaf (first ms) (pairs_together ks vs ks' vs')) refl h (beside C l (leaves x ks vs k y ks' vs') r refl g);
+        shaped = λ ms. leaf_merge_shaped (tagged_in C) l x ks vs k y ks' vs' r (second ms)
+            (new_leaf (first ms) (pairs_together ks vs ks' vs')) refl h (beside C l (leaves x ks vs k y ks' vs') r refl g);
         rewrites = λ ms. leaf_merge l x ks vs k y ks' vs' r v underfull C p (first ms) (second ms) h g;
         at_most_three = omega arith;
         in_order = two_of;

@@ -52,7 +52,8 @@ range_cons : (lo hi k v : ℕ) (ps : Pairs) → lo ≤ k → k < hi → total (h
 range_cons lo hi k v ps a b z f =
     record {
       inside = omega (arith, outside_none lo hi (k, v) a b, f.inside);
-      once = λ j. by_cases (ℕ_discrete j k) (λ e. let none : total (has_key j) ps ≡ 0 = ap (λ (i : ℕ). total (has_key i) ps) e ∙ z in omega (arith, indicator_le j k)) (λ d. omega (arith, indicator_other j k d, f.once j));
+      once = λ j. by_cases (ℕ_discrete j k) (λ e. let none : total (has_key j) ps ≡ 0 = ap (λ (i : ℕ). total (has_key i) ps) e ∙ z in
+          omega (arith, indicator_le j k)) (λ d. omega (arith, indicator_other j k d, f.once j));
     }
 
 -- the leaves and the node above them, in the order in which they are written

@@ -175,7 +175,8 @@ inner_accepted words tagged low run is_root f h =
     let z : eqb (width words) 0 ≡ false = ne_eqb (width words) 0 (omega (arith, h.filled)) in
     rw (z, h.unused, h.sound) (noted_accepts (tagged || ltb (width words) 2) (Inner (width words)) f low (pick tagged run 0) h.first)
 
-present_enters : (c : List ℕ) (n m low high run : ℕ) (is_root : Bool) (f : Findings) → Present c n m f → enter_node c n m low high run is_root f ≡ enter_kind (node_at c m) low high run is_root (taken m f)
+present_enters : (c : List ℕ) (n m low high run : ℕ) (is_root : Bool) (f : Findings) → Present c n m f
+    → enter_node c n m low high run is_root f ≡ enter_kind (node_at c m) low high run is_root (taken m f)
 unfolding enter_node
 present_enters c n m low high run is_root f h =
     let z : eqb m 0 ≡ false = ne_eqb m 0 (omega (arith, h.pos)) in

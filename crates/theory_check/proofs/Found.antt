@@ -99,7 +99,8 @@ mutual
   pub found_free : (is_root : Bool) (run low : ℕ) (t : Tree) (f : Findings) → AllFree f t → (i : ℕ) → is_free (found is_root run low t f) i + node_total (indicator i) t ≡ is_free f i
   found_free is_root run low (leaf m ks vs) f h i = root_free (violates is_root (leaf m ks vs)) low 0 m f i (h i)
   found_free is_root run low (node m g k) f h i =
-      let p : (i : ℕ) → is_free (at_root is_root run low (node m g k) f) i + indicator i m ≡ is_free f i = λ i. root_free (violates is_root (node m g k)) low (pick g run 0) m f i (omega (arith, h i)) in
+      let p : (i : ℕ) → is_free (at_root is_root run low (node m g k) f) i + indicator i m ≡ is_free f i =
+      λ i. root_free (violates is_root (node m g k)) low (pick g run 0) m f i (omega (arith, h i)) in
       let q = found_below_free (run_below (length (roots k)) run) low k (at_root is_root run low (node m g k) f) (λ i. omega (arith, p i, h i)) i in
       omega (arith, p i)
 

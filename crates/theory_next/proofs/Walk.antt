@@ -54,7 +54,8 @@ module _ (greatest : ℕ) (c : List ℕ) (t : Tree) (w : WellFormed c t) (e : ca
       go (Refused r) i = absurd i
   walk_above weight (suc most) after h enough = go (next_of greatest 1 c after) (next_right greatest c t after w e h) (walk_above weight most)
     where
-      go : (s : Successor) → IsNext (pairs t) after s → ((k : ℕ) → k < key_limit → total (above k one) (pairs t) ≤ most → total weight (walk_from greatest 1 most c k) ≡ total (above k weight) (pairs t))
+      go : (s : Successor) → IsNext (pairs t) after s → ((k : ℕ) → k < key_limit → total (above k one) (pairs t) ≤ most
+          → total weight (walk_from greatest 1 most c k) ≡ total (above k weight) (pairs t))
           → total weight (on_next (walk_from greatest 1 most c) s) ≡ total (above after weight) (pairs t)
       go (Pair k v) i next = ap (λ (x : ℕ). weight (k, v) + x) (next k (key_below after k v i) (omega (arith, taken one after k v i))) ∙ sym (taken weight after k v i)
       go Nothing i next = sym (above_last weight after (pairs t) i)

@@ -46,7 +46,8 @@ module _ (below : Bool) (l : Left) (x : ℕ) (f : Forest) (k y : ℕ) (g : Fores
       rw (bare_width f, bare_width g, ← e, le-leb 4 m h, ← bare_join f k g)
       (ap (λ (u : Forest). node 0 false u) (bare_splice l _ r ∙ ap (λ (u : Forest). splice (bare_left l) u (bare_right r)) (inners_shaped (half m) (join f k g) a b)))
 
-  pub inner_merge_shaped : (a b : ℕ) → length (roots f) + length (roots g) ≤ 3 → root_of_two below (bare_left l) (bare_right r) ≡ false → Due (node b false (splice l (one (node a false (join f k g))) r))
+  pub inner_merge_shaped : (a b : ℕ) → length (roots f) + length (roots g) ≤ 3 → root_of_two below (bare_left l) (bare_right r) ≡ false
+      → Due (node b false (splice l (one (node a false (join f k g))) r))
   unfolding mend_two mend_inners
   inner_merge_shaped a b h o =
       rw (bare_width f, bare_width g, lt-leb 4 (length (roots f) + length (roots g)) (omega arith), o, ← bare_join f k g)

@@ -23,5 +23,6 @@ module _ (c : List ℕ) (C : Context) (s s' : Tree) (w : ℕ → ℕ) (P : List 
   pub before_link : (n : ℕ) → Holds c (plug C s) → Holds (play (take n P) c) (plug C s)
   before_link n r = holds_frame (within_take n inside) c (plug C s) fresh r
 
-  pub changed : ((i : ℕ) → context_total (indicator i) C + node_total (indicator i) s' ≤ 1) → Represents (play P c) s' → Holds c (plug C s) → Holds (set (play P c) (link_place C) (root s')) (plug C s')
+  pub changed : ((i : ℕ) → context_total (indicator i) C + node_total (indicator i) s' ≤ 1) → Represents (play P c) s' → Holds c (plug C s)
+      → Holds (set (play P c) (link_place C) (root s')) (plug C s')
   changed d q r = replaced (play P c) C s s' d (holds_frame inside c (plug C s) fresh r) q

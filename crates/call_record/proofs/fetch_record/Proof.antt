@@ -58,4 +58,5 @@ returns-in-Refused c = ap (record_for c.args.block.now) (sym (sym c.find.ensures
 pub fetch_record_spec : {M : Type 1} → statement M
 fetch_record_spec =
     tie.close (tie.spec find-requires enum_known-value overflow_cast-value record_at-requires enum_told-1 slice_bounds-result-count
-    slice_bounds-result-start slice_bounds-result-end enum_told-in-Refused slice_bounds-result-count-in-Refused slice_bounds-result-start-in-Refused slice_bounds-result-end-in-Refused returns-in-Value returns-in-Absent returns-in-Refused)
+    slice_bounds-result-start slice_bounds-result-end enum_told-in-Refused slice_bounds-result-count-in-Refused
+    slice_bounds-result-start-in-Refused slice_bounds-result-end-in-Refused returns-in-Value returns-in-Absent returns-in-Refused)

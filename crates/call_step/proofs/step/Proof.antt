@@ -134,7 +134,8 @@ returns-then-has_store c =
     let m = memory_in b in
     let h = in_hand_lem c.before.before.before.before.before.before.before in
     call_made _ _ card b _ if1.false
-    (step_sized _ _ card m (sized c.before.before.before.before.before.before.before.before.before.before.before.before.before) ∙ task_stores _ card m (header_right c.before.before.before.before.before.before.before.before.before) h.1 h.0)
+    (step_sized _ _ card m (sized c.before.before.before.before.before.before.before.before.before.before.before.before.before)
+    ∙ task_stores _ card m (header_right c.before.before.before.before.before.before.before.before.before) h.1 h.0)
     (as_made c.args.line card b refl store_next.ensures)
 
 step_plan-requires : tie.Need-step_plan-requires

@@ -32,7 +32,8 @@ returns-in-8 c = let e : c.args.i ≡ 8 = omega (arith, c.in-8.is) in ap (format
 
 returns-in_default : tie.Need-returns-in_default
 returns-in_default c =
-    sym (word_other _ _ c.in_default.in_default-own.rest.0.0.0.0.1 c.in_default.in_default-own.rest.0.0.0.1 c.in_default.in_default-own.rest.0.0.1 c.in_default.in_default-own.rest.0.1 c.in_default.in_default-own.rest.1)
+    sym (word_other _ _ c.in_default.in_default-own.rest.0.0.0.0.1 c.in_default.in_default-own.rest.0.0.0.1
+    c.in_default.in_default-own.rest.0.0.1 c.in_default.in_default-own.rest.0.1 c.in_default.in_default-own.rest.1)
 
 pub formatted_word_spec : {M : Type 1} → statement M
 formatted_word_spec =

@@ -75,13 +75,18 @@ free_words c =
     let z = take_call.new.free in
     let old = placed values_at 73 (placed places_at 73 b x) y in
     let read : part (placed free_at word_count old z) free_at word_count ≡ z =
-    placed_part old z free_at word_count (free_row c.before.before) (omega (arith, values_length b x c.requires.0 (places_row c.before.before.before.before.before.before.before.before.before.before.before) y (values_row_lem c.before.before.before.before.before.before.before))) in
+    placed_part old z free_at word_count (free_row c.before.before) (omega (
+      arith,
+      values_length b x c.requires.0 (places_row c.before.before.before.before.before.before.before.before.before.before.before) y
+          (values_row_lem c.before.before.before.before.before.before.before),
+    )) in
     let small : (i : ℕ) → get_or z i 0 < 2 ^ 32 =
     λ i. subst (λ (l : List ℕ). get_or l i 0 < 2 ^ 32) read (part_small (placed free_at word_count old z) free_at word_count (λ j. omega (arith, c.slice_known-5-1.given j)) i) in
     sym (words_nodes z small)
     ∙ ap₂ words_of (free_row c.before.before)
     (take_call.ensures.0
-    ∙ ap₂ (λ (k : ℕ) (l : List ℕ). without_all (take k c.args.nodes) (nodes_of l)) (nodes_are c.before.before.before.before.before.before.before.before.before.before.before.before.before.before.before)
+    ∙ ap₂ (λ (k : ℕ) (l : List ℕ). without_all (take k c.args.nodes) (nodes_of l))
+    (nodes_are c.before.before.before.before.before.before.before.before.before.before.before.before.before.before.before)
     (free_stood b x c.requires.0 (places_row c.before.before.before.before.before.before.before.before.before.before.before) y (values_row_lem c.before.before.before.before.before.before.before)))
 
 slice_bounds-lay_places-count : tie.Need-slice_bounds-lay_places-count
@@ -127,10 +132,13 @@ take-last-requires c κs =
     let b = c.args.state.now in
     let lay_places_call = c.lay_places in
     let lay_values_call = c.lay_values in (
-      ap length (free_stood b lay_places_call.new.places c.requires.0 (places_row c.before.before.before.before.before.before.before.before) lay_values_call.new.values (values_row_lem c.before.before.before.before))
+      ap length (free_stood b lay_places_call.new.places c.requires.0 (places_row c.before.before.before.before.before.before.before.before)
+          lay_values_call.new.values (values_row_lem c.before.before.before.before))
           ∙ free_span b [] c.requires.0,
       omega (arith, nodes_are c.before.before.before.before.before.before.before.before.before.before.before.before, needed_few c.args.decision),
-      subst (λ (k : ℕ). Among k c.args.nodes) (sym (nodes_are c.before.before.before.before.before.before.before.before.before.before.before.before)) (among c.before.before.before.before.before.before.before.before.before.before.before.before),
+      subst (λ (k : ℕ). Among k c.args.nodes)
+          (sym (nodes_are c.before.before.before.before.before.before.before.before.before.before.before.before))
+          (among c.before.before.before.before.before.before.before.before.before.before.before.before),
     )
 
 bounds-state-0 : tie.Need-bounds-state-0
@@ -159,16 +167,30 @@ returns c =
     let x = lay_places_call.new.places in
     let y = lay_values_call.new.values in
     let z = take_call.new.free in
-    let same = word_stood b x c.requires.0 (places_row c.before.before.before.before.before.before.before.before.before.before.before.before.before.before.before.before.before) y (values_row_lem c.before.before.before.before.before.before.before.before.before.before.before.before.before) z (free_row c.before.before.before.before.before.before.before.before) in
-    let head = head_stood b x c.requires.0 (places_row c.before.before.before.before.before.before.before.before.before.before.before.before.before.before.before.before.before) y (values_row_lem c.before.before.before.before.before.before.before.before.before.before.before.before.before) in
+    let same = word_stood b x c.requires.0
+    (places_row c.before.before.before.before.before.before.before.before.before.before.before.before.before.before.before.before.before) y
+    (values_row_lem c.before.before.before.before.before.before.before.before.before.before.before.before.before) z
+    (free_row c.before.before.before.before.before.before.before.before) in
+    let head = head_stood b x c.requires.0
+    (places_row c.before.before.before.before.before.before.before.before.before.before.before.before.before.before.before.before.before) y
+    (values_row_lem c.before.before.before.before.before.before.before.before.before.before.before.before.before) in
     let stood = values_stood b x c.requires.0 (places_row c.before.before.before.before.before.before.before.before.before.before.before.before.before.before.before.before.before) in
     let values = lay_values_call.ensures ∙ ap (λ (l : List ℕ). words_by card d nodes ++ drop (store_count d) l) stood in
     let count : length (words_by card d nodes) ≡ store_count d =
-    words_count card d nodes y (part b values_at 73) values (values_row_lem c.before.before.before.before.before.before.before.before.before.before.before.before.before) (part_length b values_at 73 (omega (arith, c.requires.0))) in (
+    words_count card d nodes y (part b values_at 73) values
+    (values_row_lem c.before.before.before.before.before.before.before.before.before.before.before.before.before)
+    (part_length b values_at 73 (omega (arith, c.requires.0))) in (
       store_head.ensures
-          ∙ plan_stored card b c.args.doing d nodes (three c.before.before.before.before.before.before.before.before.before.before.before.before.before.before.before.before.before.before.before.before.before) count _ x y z _ (same 0 (omega arith))
-          (take_call.ensures.1 ∙ ap₂ (λ (w k : ℕ). last_of w (take k nodes)) (head 1 (omega arith)) (nodes_are c.before.before.before.before.before.before.before.before.before.before.before.before.before.before.before.before.before.before.before.before.before))
-          refl refl (stores_are c.before.before.before.before.before.before.before.before.before.before.before.before.before.before.before.before.before.before.before.before.before) cut_of.ensures (rows_placed b z x y c.requires.0 (free_row c.before.before.before.before.before.before.before.before) (places_row c.before.before.before.before.before.before.before.before.before.before.before.before.before.before.before.before.before) (values_row_lem c.before.before.before.before.before.before.before.before.before.before.before.before.before))
+          ∙ plan_stored card b c.args.doing d nodes (three
+          c.before.before.before.before.before.before.before.before.before.before.before.before.before.before.before.before.before.before.before.before.before)
+          count _ x y z _ (same 0 (omega arith))
+          (take_call.ensures.1 ∙ ap₂ (λ (w k : ℕ). last_of w (take k nodes)) (head 1 (omega arith)) (nodes_are
+          c.before.before.before.before.before.before.before.before.before.before.before.before.before.before.before.before.before.before.before.before.before))
+          refl refl (stores_are
+          c.before.before.before.before.before.before.before.before.before.before.before.before.before.before.before.before.before.before.before.before.before)
+          cut_of.ensures (rows_placed b z x y c.requires.0 (free_row c.before.before.before.before.before.before.before.before)
+          (places_row c.before.before.before.before.before.before.before.before.before.before.before.before.before.before.before.before.before)
+          (values_row_lem c.before.before.before.before.before.before.before.before.before.before.before.before.before))
           lay_places_call.ensures
           values
           (free_words c.before.before.before.before.before.before),

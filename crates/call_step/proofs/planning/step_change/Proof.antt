@@ -49,7 +49,8 @@ on_card_lem c =
     let if1 = c.if-state-left in
     let n = block_word b 0 in
     subst (λ (k : ℕ). k < length card) (sym c.wide-2.ensures)
-    (change_on_card greatest_nodes card b c.requires.0 c.args.doing c.args.decision c.requires.2 c.requires.3 n c.requires.1 _ _ _ (given c.before.before.before.before.before.before.before.before.before.before)
+    (change_on_card greatest_nodes card b c.requires.0 c.args.doing c.args.decision c.requires.2 c.requires.3 n c.requires.1 _ _ _
+    (given c.before.before.before.before.before.before.before.before.before.before)
     plan.ensures.1 _ plan.ensures.0 if1.false)
 
 slice_bounds-give-count : tie.Need-slice_bounds-give-count
@@ -121,7 +122,8 @@ store_word-requires c κs =
     let b = c.args.state.now in
     let plan = c.plan in
     let n = block_word b 0 in (
-      change_length_lem greatest_nodes c.args.card.now b c.requires.0 c.args.doing c.args.decision c.requires.2 c.requires.3 n c.requires.1 _ _ _ (given c.before.before.before.before.before.before.before.before.before.before)
+      change_length_lem greatest_nodes c.args.card.now b c.requires.0 c.args.doing c.args.decision c.requires.2 c.requires.3 n
+          c.requires.1 _ _ _ (given c.before.before.before.before.before.before.before.before.before.before)
           plan.ensures.1 _ plan.ensures.0,
       omega arith,
       on_card_lem (c),
@@ -144,10 +146,12 @@ returns-then-store_word c =
     let store = c.store_word in
     let n = block_word b 0 in
     let p = plan.new.state in
-    let long = change_length_lem greatest_nodes c.args.card.now b c.requires.0 c.args.doing c.args.decision c.requires.2 c.requires.3 n c.requires.1 _ _ _ (given c.before.before.before.before.before.before.before.before.before.before.before.before.before.before.before.before)
+    let long = change_length_lem greatest_nodes c.args.card.now b c.requires.0 c.args.doing c.args.decision c.requires.2 c.requires.3 n
+    c.requires.1 _ _ _ (given c.before.before.before.before.before.before.before.before.before.before.before.before.before.before.before.before)
     plan.ensures.1 _ plan.ensures.0 in
     λ line changes.
-    change_made greatest_nodes c.args.card.now b c.requires.0 c.args.doing c.args.decision c.requires.2 c.requires.3 n c.requires.1 _ _ _ (given c.before.before.before.before.before.before.before.before.before.before.before.before.before.before.before.before)
+    change_made greatest_nodes c.args.card.now b c.requires.0 c.args.doing c.args.decision c.requires.2 c.requires.3 n c.requires.1 _ _ _
+    (given c.before.before.before.before.before.before.before.before.before.before.before.before.before.before.before.before)
     plan.ensures.1 _ plan.ensures.0 line changes wide2_call.result wide2_call.ensures (on_card_lem c.before.before.before.before.before.before) store.ensures.1.0
     (store.ensures.1.1 ∙ played_on p long 1 (drop 1 (planned p)) (sym store.ensures.0 ∙ c.if-store_word.true))
 
@@ -165,10 +169,13 @@ returns c =
     let store = c.store_word in
     let n = block_word b 0 in
     let p = plan.new.state in
-    let long = change_length_lem greatest_nodes c.args.card.now b c.requires.0 c.args.doing c.args.decision c.requires.2 c.requires.3 n c.requires.1 _ _ _ (given c.before.before.before.before.before.before.before.before.before.before.before.before.before.before.before.before.before.before.before.before)
+    let long =
+    change_length_lem greatest_nodes c.args.card.now b c.requires.0 c.args.doing c.args.decision c.requires.2 c.requires.3 n c.requires.1 _ _ _
+    (given c.before.before.before.before.before.before.before.before.before.before.before.before.before.before.before.before.before.before.before.before)
     plan.ensures.1 _ plan.ensures.0 in
     λ line changes.
-    change_made greatest_nodes c.args.card.now b c.requires.0 c.args.doing c.args.decision c.requires.2 c.requires.3 n c.requires.1 _ _ _ (given c.before.before.before.before.before.before.before.before.before.before.before.before.before.before.before.before.before.before.before.before)
+    change_made greatest_nodes c.args.card.now b c.requires.0 c.args.doing c.args.decision c.requires.2 c.requires.3 n c.requires.1 _ _ _
+    (given c.before.before.before.before.before.before.before.before.before.before.before.before.before.before.before.before.before.before.before.before)
     plan.ensures.1 _ plan.ensures.0 line changes wide2_call.result wide2_call.ensures (on_card_lem c.before.before.before.before.before.before.before.before.before.before) store.ensures.1.0
     (ended p long 1 (drop 1 (planned p)) (sym store.ensures.0 ∙ c.if-store_word.false) store.ensures.1.1 c.end_change.ensures)
 

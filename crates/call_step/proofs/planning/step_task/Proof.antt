@@ -101,7 +101,8 @@ returns-in-Prepared c =
     let next_change_call = c.next_change-next in
     let step_change = c.step_change in
     let o = outcome_is c.before.before.before.before.before.before.before.before ∙ c.in-Prepared.is in
-    let changes = task_changes greatest_nodes line card b c.requires.0 c.args.task c.requires.3 next_change_call.result (is_decided c.before.before.before.before.before.before.before.before.before) c.requires.1 c.requires.4 o in
+    let changes = task_changes greatest_nodes line card b c.requires.0 c.args.task c.requires.3 next_change_call.result
+    (is_decided c.before.before.before.before.before.before.before.before.before) c.requires.1 c.requires.4 o in
     subst (MadeOn line card b _ _ _)
     (sym (task_prepares greatest_nodes line card b c.requires.0 c.args.task c.requires.3 next_change_call.result (is_decided c.before.before.before.before.before.before.before.before.before)))
     (step_change.ensures line changes next_change_call.result.answer)

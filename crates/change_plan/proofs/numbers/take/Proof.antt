@@ -13,7 +13,9 @@ use Rattle.change_plan.proofs.numbers.take.Statement.{statement}
 use Rattle.change_plan.proofs.numbers.take.Tie as tie
 
 abbrev invariant-loop-i : tie.invariant-loop-i
-invariant-loop-i free₀ count last nodes latest₀ i₀ free latest i = (i ≤ count) × (nodes_of free ≡ without_all (take i nodes) (nodes_of free₀)) × (length free ≡ word_count) × (latest ≡ last_of last (take i nodes))
+invariant-loop-i free₀ count last nodes latest₀ i₀ free latest i =
+    (i ≤ count)
+    × (nodes_of free ≡ without_all (take i nodes) (nodes_of free₀)) × (length free ≡ word_count) × (latest ≡ last_of last (take i nodes))
 
 abbrev decreases-loop-i : tie.decreases-loop-i
 decreases-loop-i free₀ count last nodes latest₀ i₀ free latest i = count - i

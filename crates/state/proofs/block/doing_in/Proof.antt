@@ -37,7 +37,13 @@ returns-in-4 c = ap (λ (w : ℕ). doing_in w c.args.a c.args.b c.args.c) (sym c
 
 returns-in_default : tie.Need-returns-in_default
 unfolding doing_in
-returns-in_default c = simp (ne_eqb _ 4 c.in_default.in_default-own.rest.1, ne_eqb _ 3 c.in_default.in_default-own.rest.0.1, ne_eqb _ 2 c.in_default.in_default-own.rest.0.0.1, ne_eqb _ 1 c.in_default.in_default-own.rest.0.0.0.1)
+returns-in_default c =
+    simp (
+      ne_eqb _ 4 c.in_default.in_default-own.rest.1,
+      ne_eqb _ 3 c.in_default.in_default-own.rest.0.1,
+      ne_eqb _ 2 c.in_default.in_default-own.rest.0.0.1,
+      ne_eqb _ 1 c.in_default.in_default-own.rest.0.0.0.1,
+    )
 
 pub doing_in_spec : {M : Type 1} → statement M
 doing_in_spec = tie.close (tie.spec phase_in-requires phase_in-requires-in-3 returns-in-1 returns-in-2 returns-in-3 returns-in-4 returns-in_default)
