@@ -14,7 +14,8 @@ enum {
     BLOCK_PLACES = BLOCK_FREE + BLOCK_FREE_WORDS,
     BLOCK_DEPTH = BLOCK_PLACES + 2 * 73, // of the way of the update begun last, when it began
     BLOCK_TOTALS = BLOCK_DEPTH + 1,      // by family
-    BLOCK_LINES = BLOCK_TOTALS + 16,     // 0: the card has one line, and the words after this are nothing to it
+    BLOCK_LINES = BLOCK_TOTALS + 16,     // 0: the card has one line, and all words after this are 0
+    BLOCK_BACK = BLOCK_LINES + 1,        // the free nodes that the line may not use
     BLOCK_DOINGS = 5
 };
 

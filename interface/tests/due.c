@@ -50,6 +50,13 @@ uint32_t due_open(const desk *d)
 
 static bool is_doing(const desk *d) { return d->state[BLOCK_DOING] >= 1 && d->state[BLOCK_DOING] < BLOCK_DOINGS; }
 
+// Whether so many free nodes, less those that the line may not use, are enough for a split with this run above it.
+static bool has_room(const desk *d, uint32_t free, uint32_t run)
+{
+    uint64_t needed = (uint64_t)d->state[BLOCK_BACK] + run + 5;
+    return free >= needed;
+}
+
 uint32_t due_start(const desk *d, bool insert, uint32_t key, bool *room_decided)
 {
     *room_decided = true;
@@ -78,8 +85,9 @@ uint32_t due_start(const desk *d, bool insert, uint32_t key, bool *room_decided)
         else
             strays += bit;
     }
-    *room_decided = free >= l.run + 5 || free + strays < l.run + 5;
-    return free < l.run + 5 ? RATION_NO_ROOM : RATION_STARTED;
+    bool room = has_room(d, free, l.run);
+    *room_decided = room || !has_room(d, free + strays, l.run);
+    return room ? RATION_STARTED : RATION_NO_ROOM;
 }
 
 uint32_t due_step(const desk *d)

@@ -32,6 +32,8 @@ void make_garbage_state(uint32_t *state, uint32_t nodes, bool likely, random_str
     for (uint32_t i = BLOCK_PLACES; i < BLOCK_DEPTH; i++)
         if (random_percent(random, 70))
             state[i] = random_below(random, RATION_CARD_WORDS(nodes) + 1);
+    if (random_percent(random, 70))
+        state[BLOCK_BACK] = random_percent(random, 50) ? 0 : random_below(random, nodes);
     if (random_percent(random, 50))
         for (uint32_t m = 0; m < 32 * BLOCK_FREE_WORDS; m++) // bits of the card's nodes alone
             if (m == 0 || m > nodes)

@@ -256,11 +256,10 @@ static void check_beginning(desk *d, ration_answer a, bool is_opening)
         return;
     }
     check_guards(d->state, 4 * d->state_words);
-    for (size_t i = 0; RATION_IS_REFUSAL(a.code) && i <= BLOCK_LINES; i++)
+    for (size_t i = 0; RATION_IS_REFUSAL(a.code) && i < BLOCK_LINES; i++)
         CHECK(d->state[i] == 0, "word %zu of the block is %u: not the idle state for 0 nodes", i, d->state[i]);
-    CHECK(d->state[BLOCK_LINES] == 0, "the block says %u of its lines", d->state[BLOCK_LINES]);
-    for (size_t i = BLOCK_LINES + 1; i < d->state_words; i++)
-        CHECK(d->state[i] == d->state_copy[i], "word %zu of the block, of a second line, was changed", i);
+    for (size_t i = BLOCK_LINES; i < d->state_words; i++)
+        CHECK(d->state[i] == 0, "word %zu of the block, of a second line, is %u", i, d->state[i]);
     CHECK(d->state[BLOCK_DEPTH] == 0, "depth %u in the block", d->state[BLOCK_DEPTH]);
     d->depth = 0;
     memcpy(d->state_copy, d->state, 4 * d->state_words);

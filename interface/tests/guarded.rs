@@ -143,14 +143,14 @@ impl Desk {
         }
     }
 
-    /// Refused it leaves an idle state for 0 nodes, which is 0 up to the word of the lines; else no update was begun since. The
-    /// words of a second line, behind that word, are as they were. Opened the totals are those of the card's pairs, counted here.
+    /// Refused it leaves an idle state for 0 nodes, which is 0; else no update was begun since, and the words of a second line
+    /// are 0. Opened the totals are those of the card's pairs, counted here.
     fn beginning<T>(&mut self, result: Result<T, Refusal>, is_opening: bool) -> Result<T, Refusal> {
         self.events += 1;
         assert!(self.card.lend() == self.copy, "the card was changed");
         let words = self.state.block.words();
-        assert!(result.is_ok() || words[..=LINES].iter().all(|word| *word == 0), "not the idle state for 0 nodes");
-        assert_eq!(words[LINES], 0, "the block says another number of lines");
+        assert!(result.is_ok() || words[..LINES].iter().all(|word| *word == 0), "not the idle state for 0 nodes");
+        assert!(words[LINES..].iter().all(|word| *word == 0), "a word of a second line");
         self.depth = 0;
         assert_eq!(self.state.block.words()[DEPTH], self.depth, "a depth in the block");
         self.totals = [0; 16];

@@ -35,6 +35,7 @@ use Rattle.call_change.specs.Updates.{landing, empty_reason, reason_in, insert_r
 use Rattle.state.specs.Answers.{step_reply, start_reply}
 use Rattle.call_find.specs.Find.{found_in, found_at, find_of, find_in}
 use Rattle.call_open.specs.Opening.{open_sound, open_checked, open_of}
+use Rattle.call_start.specs.CardStarts.{one_line}
 use Rattle.call_start.specs.Starts.{format_of, start_refused, start_accepted, start_landed, start_checked, start_of, insert_of, delete_of}
 use Rattle.call_step.specs.Calls.{step_of, planning, step_prepared, step_begin, step_held, step_task, placed_on, on_card, step_checked}
 use Rattle.state.specs.Steps.{no_beginning, step_refused, step_final, formatted_word, format_store, formatting_from, step_format, step_store, is_idle, held_by}
@@ -141,7 +142,7 @@ begins : Begins (ration_table greatest_nodes) formatted []
 unfolding format_of nodes_of_length start_reply
 begins =
     let r = to_ready 153 being_formatted computed.0 in
-    subst (λ w. Begins (ration_table greatest_nodes) w []) (r.2 ∙ computed.1) (from_format any_words (replicate 153 step) refl r.0 r.1)
+    subst (λ w. Begins (ration_table greatest_nodes) w []) (r.2 ∙ computed.1) (from_format one_line any_words (replicate 153 step) refl r.0 r.1 refl)
 
 -- the demand at these two lists
 abbrev pub Survived : ℕ → Type 0

@@ -4,6 +4,7 @@ use Rattle.laws.specs.Cases.{pick}
 use Rattle.card.specs.Layout.{node_at}
 use Rattle.card.specs.Lines.{has_line, seen}
 use Rattle.card.specs.Header.{nodes_of_length, card_refusal}
+use Rattle.card.specs.Forms.{any_refusal}
 use Rattle.walk.specs.Descent.{slot_of, way, leaf_of, depth_of}
 use Rattle.walk.specs.declared.Slot.{Slot}
 use Rattle.walk.specs.declared.Slot.TheVariants.{At, Absent as NoSlot}
@@ -32,6 +33,12 @@ find_of greatest line card key =
     pick (eqb (card_refusal greatest card) 0)
     (pick (has_line card line) (find_in (seen line card) (nodes_of_length greatest (length card)) key) (FoundRefused 18)) (FoundRefused (card_refusal greatest card))
 
+-- the same on a card of either form: 1, 2, 3, 17, then 18, and then as on the line's own table
+unfoldable pub find_on : ℕ → ℕ → List ℕ → ℕ → Found
+find_on greatest line card key =
+    pick (eqb (any_refusal greatest card) 0)
+    (pick (has_line card line) (find_in (seen line card) (nodes_of_length greatest (length card)) key) (FoundRefused 18)) (FoundRefused (any_refusal greatest card))
+
 -- Document 02, W-203: "the number of internal nodes on the given number's way when the call began, tagged ones counted. A refusal carries
 -- none": 0 for every refusal of `findOf`
 unfoldable pub depth_in : List ℕ → ℕ → ℕ → ℕ
@@ -40,3 +47,7 @@ depth_in card n key = pick (eqb key 0) 0 (depth_of (leaf_of (way card n key)))
 unfoldable pub find_depth : ℕ → ℕ → List ℕ → ℕ → ℕ
 find_depth greatest line card key =
     pick (eqb (card_refusal greatest card) 0) (pick (has_line card line) (depth_in (seen line card) (nodes_of_length greatest (length card)) key) 0) 0
+
+unfoldable pub find_depth_on : ℕ → ℕ → List ℕ → ℕ → ℕ
+find_depth_on greatest line card key =
+    pick (eqb (any_refusal greatest card) 0) (pick (has_line card line) (depth_in (seen line card) (nodes_of_length greatest (length card)) key) 0) 0

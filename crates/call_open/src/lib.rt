@@ -2,6 +2,8 @@
 
 #![tactic(auto)]
 
+mod lines;
+
 ghost use Rattle.std.specs.Prelude.{◌≡◌, ◌+◌, ◌*◌, ◌≤◌, length};
 ghost use Rattle.card.specs.Layout.{greatest_nodes, search_start};
 ghost use Rattle.card_family.specs.Families.{family_count};
@@ -13,6 +15,7 @@ ghost use Rattle.state.specs.Clauses.{Opened, OpenCall};
 ghost use Rattle.call_open.specs.Opening.{open_sound, open_checked, open_of};
 
 use card_check::{Checked, FOUND_WORDS, KEY, RUN, TOTALS, VIOLATED};
+pub use lines::{open_card, open_lines};
 use state::block::{
     FREE, NO_STATE, PLACES, STATE_WORDS, refuse_beginning, store_resting, store_totals,
 };
@@ -22,7 +25,7 @@ use state::{Begun, Doing};
 // not added to it.
 fn open_sound(state: &mut [u32], n: usize, last: u32, found: &[u32]) -> Begun
     requires { (length state.old ≡ state_words) × (n ≤ greatest_nodes) × (length found.now ≡ 3 + family_count) }
-    ensures { Opened state.old state.new result (open_sound n last (part state.old totals_at family_count)
+    ensures { Opened state.new result (open_sound n last (part state.old totals_at family_count)
         (findings_of (nodes_of (part state.old free_at word_count)) found.now)) }
 {
     let count = card_free::count(&state[FREE..PLACES]);
@@ -45,7 +48,7 @@ fn open_sound(state: &mut [u32], n: usize, last: u32, found: &[u32]) -> Begun
 // (document 02, W-204); the search for a free node begins after the root (W-205).
 fn open_checked(card: &[u32], n: usize, state: &mut [u32]) -> Begun
     requires { (length card.now ≡ 8 + 24 * n) × (n ≤ greatest_nodes) × (length state.old ≡ state_words) }
-    ensures { Opened state.old state.new result (open_checked n (search_start card.now) (table_counted card.now) (table_check card.now n)) }
+    ensures { Opened state.new result (open_checked n (search_start card.now) (table_counted card.now) (table_check card.now n)) }
 {
     let mut found: [u32; FOUND_WORDS] = [0; FOUND_WORDS];
     match card_check::check_table(card, n, &mut state[FREE..PLACES], &mut found) {

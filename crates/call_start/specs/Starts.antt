@@ -1,5 +1,5 @@
 -- Document 01: starting to format and starting an update, with their refusals in the order of "Refusal by place".
-use Rattle.std.specs.Prelude.{Bool, true, false, List, ℕ, length, set, eqb}
+use Rattle.std.specs.Prelude.{Bool, true, false, List, ℕ, ◌-◌, length, set, eqb}
 use Rattle.laws.specs.Cases.{pick}
 use Rattle.card.specs.Header.{nodes_of_length, header_refusal}
 use Rattle.card.specs.Layout.{formatted_root}
@@ -35,7 +35,10 @@ start_refused r m = record { begun = BegunRefused r; memory = m }
 -- the internal nodes on the key's way are kept for the final answer: "when the call began" (document 02, W-203)
 unfoldable pub start_accepted : Memory → Doing → ℕ → Handed
 start_accepted m doing depth =
-    record { begun = Started; memory = record { nodes = m.nodes; free = m.free; last = m.last; doing = doing; rest = m.rest; cut = m.cut; depth = depth; totals = m.totals } }
+    record {
+      begun = Started;
+      memory = record { nodes = m.nodes; free = m.free; last = m.last; doing = doing; rest = m.rest; cut = m.cut; depth = depth; totals = m.totals; back = m.back };
+    }
 
 -- those on the way of a key in a line's table, for a state of so many nodes
 abbrev pub start_depth : ℕ → List ℕ → Memory → ℕ → ℕ
@@ -64,9 +67,10 @@ start_of greatest line card m key doing room =
     (pick (eqb (header_refusal card m.nodes) 0) (start_checked line card m key doing room) (start_refused (header_refusal card m.nodes) m))
     (start_refused 1 m))
 
--- "8: .. free nodes fewer than j + 5": "Steps and refusal 8 go by these bits"
+-- "8: .. free nodes fewer than j + 5": "Steps and refusal 8 go by these bits". "Free nodes .. in the room rules .. mean a line's limit less
+-- its own nodes" (document 02, W-207), so those that the line may not use are taken from the bits; a card with one line has none such
 abbrev pub room_of : Memory → ℕ
-room_of m = count_true m.free
+room_of m = count_true m.free - m.back
 
 unfoldable pub insert_of : ℕ → ℕ → List ℕ → Memory → ℕ → ℕ → Handed
 insert_of greatest line card m key value = start_of greatest line card m key (Inserting key value NotBegun) (start_room (seen line card) key (room_of m))

@@ -3,7 +3,10 @@
 
 #![tactic(auto)]
 
-ghost use Rattle.std.specs.Prelude.{◌≡◌, true, false, ◌≤◌, ◌<◌, length, set, drop};
+mod lines;
+mod turning;
+
+ghost use Rattle.std.specs.Prelude.{◌≡◌, true, false, ◌≤◌, ◌<◌, length, set};
 ghost use Rattle.card.specs.Header.{Sized};
 ghost use Rattle.card.specs.Layout.{greatest_nodes, depth_limit, node_at, formatted_root};
 ghost use Rattle.card.specs.Lines.{IsLine, seen};
@@ -13,18 +16,20 @@ ghost use Rattle.walk.specs.Descent.{slot_of, way, leaf_of, depth_of, run_over};
 ghost use Rattle.laws.specs.Cases.{pick};
 ghost use Rattle.state.specs.declared.Doing.TheVariants.{Inserting, Deleting};
 ghost use Rattle.state.specs.declared.Phase.TheVariants.{NotBegun};
-ghost use Rattle.state.specs.Block.{free_at, totals_at, back_at, state_words, part, memory_in};
+ghost use Rattle.state.specs.Block.{free_at, totals_at, state_words, part, memory_in};
 ghost use Rattle.state.specs.Clauses.{OpenCall, StartCall};
 ghost use Rattle.call_change.specs.Updates.{landing, insert_reason, room_for};
 ghost use Rattle.call_start.specs.Starts.{format_of, room_of, insert_of, delete_of};
 ghost use Rattle.call_start.specs.Refusals.{start_refusal, is_slot, line_way, room_where, landing_refusal, due_refusal, due_depth, begun_by};
 
 use card_family::FAMILIES;
+pub use lines::start_format_lines;
 use state::block::{
-    DEPTH, FREE, NO_STATE, NODES, PLACES, STATE_WORDS, is_idle, refuse_beginning, store_doing,
-    store_resting, store_totals, wide,
+    BACK, DEPTH, FREE, NO_STATE, NODES, PLACES, STATE_WORDS, is_idle, refuse_beginning,
+    store_doing, store_resting, store_totals, wide,
 };
 use state::{Begun, Doing, Phase};
+pub use turning::{room_on, turn_to};
 use walk::{End, Slot};
 
 // The refusals 1, 2, 3, 7, 18 and 6 of starting an update, in this order; 0 where none is due.
@@ -68,6 +73,20 @@ fn has_word(leaf: &[u32], word: u32) -> bool
     }
 }
 
+// The free nodes that an insert goes by: "a line's limit less its own nodes" (document 02, W-207), which are the bits less those that the
+// line may not use. That word may be any number, and where it is more than there are none is left.
+fn room_left(state: &[u32]) -> usize
+    requires { length state.now ≡ state_words }
+    ensures { result ≡ room_of (memory_in state.now) }
+{
+    let count = card_free::count(&state[FREE..PLACES]);
+    let back = wide(state[BACK]);
+    if count < back {
+        return 0;
+    }
+    count - back
+}
+
 // "A splitting insert needs j + 5 free nodes." The 11-child nodes above leaf m of the line's table are counted only where it is full;
 // they may be any number here, so the 5 are taken from the free nodes.
 fn has_room(card: &[u32], state: &[u32], line: u32, m: usize, key: u32) -> bool
@@ -84,12 +103,12 @@ fn has_room(card: &[u32], state: &[u32], line: u32, m: usize, key: u32) -> bool
     if has_word(leaf, 0) {
         return true;
     }
-    let count = card_free::count(&state[FREE..PLACES]);
-    if count < call_change::SPLIT_NEED {
+    let room = room_left(state);
+    if room < call_change::SPLIT_NEED {
         return false;
     }
     let run = walk::run_above(card, wide(state[NODES]), key, card::root_of(card, line));
-    run <= count - call_change::SPLIT_NEED
+    run <= room - call_change::SPLIT_NEED
 }
 
 // The same of an update that may split its leaf, or of one that never does and so needs no room.
@@ -203,7 +222,6 @@ fn hold_empty(state: &mut [u32], n: usize)
     requires { (length state.old ≡ state_words) × (n < capacity) }
     ensures word_count_after { nodes_of (part state.new free_at word_count) ≡ set (all_nodes n) formatted_root false }
     ensures family_count_after { part state.new totals_at family_count ≡ no_totals }
-    ensures state_unchanged { drop back_at state.new ≡ drop back_at state.old }
 {
     free_but_root(&mut state[FREE..PLACES], n);
     store_totals(state, &[0; FAMILIES]);

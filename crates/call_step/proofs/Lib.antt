@@ -16,3 +16,5 @@ pub mod ChangeLaws
 pub mod StepLaws
 -- a step of a line's own table, on the card
 pub mod LineSteps
+-- document 02, W-207: the stores that format a card of either form
+pub mod FormLaws

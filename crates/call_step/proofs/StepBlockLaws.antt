@@ -18,7 +18,7 @@ use Rattle.change_plan.specs.Plan.{stores_of}
 use Rattle.change_plan.specs.Planning.{with_all}
 use Rattle.state.specs.Memory.{Memory, idled, settled_phase, settled, settled_totals, advanced}
 use Rattle.state.specs.Steps.{formatting_from}
-use Rattle.state.specs.Block.{depth_at, free_at, places_at, totals_at, values_at, state_words, block_word, part, phase_in, doing_in, memory_in, doing_words}
+use Rattle.state.specs.Block.{depth_at, free_at, places_at, totals_at, back_at, values_at, state_words, block_word, part, phase_in, doing_in, memory_in, doing_words}
 use Rattle.state.specs.Blocks.{over, words_of}
 use Rattle.state.specs.declared.Doing.{Doing}
 use Rattle.state.specs.declared.Doing.TheVariants.{Inserting, Deleting}
@@ -53,6 +53,7 @@ memory_formatting b v l =
       cut = before_zero (j ∷ k ∷ m ∷ []);
       depth = get_or rest (word_count + 146) 0;
       totals = take family_count (drop (word_count + 147) rest);
+      back = get_or rest (word_count + 164) 0;
     }) h)
 
 -- ---- a store of the plan
@@ -71,8 +72,8 @@ module _ (words rest : List ℕ) (l : length words ≡ word_count) where
   freed_values : drop (word_count + 73) freed ≡ drop (word_count + 73) rest
   freed_values = sym (drop-drop 73 word_count freed) ∙ ap (drop 73) freed_rows ∙ drop-drop 73 word_count rest
 
-  freed_depth : get_or freed (word_count + 146) 0 ≡ get_or rest (word_count + 146) 0
-  freed_depth = append_after words (drop word_count rest) 146 (word_count + 146) (omega arith) ∙ get_or-drop word_count rest 146 0
+  freed_word : (i : ℕ) → get_or freed (word_count + i) 0 ≡ get_or rest (word_count + i) 0
+  freed_word i = append_after words (drop word_count rest) i (word_count + i) (omega arith) ∙ get_or-drop word_count rest i 0
 
   freed_totals : drop (word_count + 147) freed ≡ drop (word_count + 147) rest
   freed_totals = sym (drop-drop 147 word_count freed) ∙ ap (drop 147) freed_rows ∙ drop-drop 147 word_count rest
@@ -89,6 +90,7 @@ last_played b words made phase =
       cut = [];
       depth = (memory_in b).depth;
       totals = (memory_in b).totals;
+      back = (memory_in b).back;
     }
 
 last_played_lem : (b words : List ℕ) (made phase : ℕ) → length b ≡ state_words → length words ≡ word_count
@@ -100,7 +102,7 @@ last_played_lem b words made phase l w =
     ∙ by_head (λ (x : List ℕ). memory_in (placed 8 (3 + word_count) (set (set x 6 made) 5 phase) (0 ∷ 0 ∷ 0 ∷ words)) ≡ last_played x words made phase)
     b (omega arith)
     (λ n last c d e f g i j k m rest.
-    let with : List ℕ → List ℕ → List ℕ → ℕ → List ℕ → Memory = λ x y z depth totals. record {
+    let with : List ℕ → List ℕ → List ℕ → ℕ → List ℕ → ℕ → Memory = λ x y z depth totals back. record {
       nodes = n;
       free = nodes_of x;
       last = last;
@@ -109,12 +111,14 @@ last_played_lem b words made phase l w =
       cut = [];
       depth = depth;
       totals = take family_count totals;
+      back = back;
     } in
     let freed_list = freed words rest w in
-    ap₂ (λ (x : List ℕ) (depth : ℕ). with x (drop word_count freed_list) (drop (word_count + 73) freed_list) depth (drop (word_count + 147) freed_list))
-    (freed_words words rest w) (freed_depth words rest w)
-    ∙ ap₂ (λ (y z : List ℕ). with words y z (get_or rest (word_count + 146) 0) (drop (word_count + 147) freed_list)) (freed_rows words rest w) (freed_values words rest w)
-    ∙ ap (with words (drop word_count rest) (drop (word_count + 73) rest) (get_or rest (word_count + 146) 0)) (freed_totals words rest w))
+    ap₂ (λ (x : List ℕ) (depth : ℕ). with x (drop word_count freed_list) (drop (word_count + 73) freed_list) depth (drop (word_count + 147) freed_list) (get_or freed_list (word_count + 164) 0))
+    (freed_words words rest w) (freed_word words rest w 146)
+    ∙ ap₂ (λ (y z : List ℕ). with words y z (get_or rest (word_count + 146) 0) (drop (word_count + 147) freed_list) (get_or freed_list (word_count + 164) 0))
+    (freed_rows words rest w) (freed_values words rest w)
+    ∙ ap₂ (with words (drop word_count rest) (drop (word_count + 73) rest) (get_or rest (word_count + 146) 0)) (freed_totals words rest w) (freed_word words rest w 164))
 
 -- as many words as before
 played_long : (b words : List ℕ) (made phase : ℕ) → length b ≡ state_words → length words ≡ word_count
@@ -137,6 +141,7 @@ on_played : (b : List ℕ) (made : ℕ) → length b ≡ state_words
       cut = (memory_in b).cut;
       depth = (memory_in b).depth;
       totals = (memory_in b).totals;
+      back = (memory_in b).back;
     }
 unfolding memory_in
 on_played b made l =
@@ -151,6 +156,7 @@ on_played b made l =
       cut = (memory_in x).cut;
       depth = (memory_in x).depth;
       totals = (memory_in x).totals;
+      back = (memory_in x).back;
     })
     b (omega arith) (λ n last c d e f g i j k m rest. refl)
 
@@ -191,6 +197,7 @@ memory_played b made (s ∷ rest) l e =
       cut = (memory_in b).cut;
       depth = (memory_in b).depth;
       totals = (memory_in b).totals;
+      back = (memory_in b).back;
     }) (sym e)
 memory_played b made [] l e =
     let bits : List Bool = with_all (before_zero (part b 8 3)) (nodes_of (part b free_at word_count)) in
@@ -213,6 +220,7 @@ memory_played b made [] l e =
       cut = [];
       depth = (memory_in b).depth;
       totals = counted;
+      back = (memory_in b).back;
     }) (nodes_words word_count bits full) (sym e)
     ∙ ap
     (λ (doing : Doing). record {
@@ -224,6 +232,7 @@ memory_played b made [] l e =
       cut = [];
       depth = (memory_in b).depth;
       totals = counted;
+      back = (memory_in b).back;
     }) (settled_read (block_word b 2) (block_word b 3) (block_word b 4) (block_word b 5))
 
 -- ---- a change planned
@@ -244,7 +253,7 @@ zip_parts (s ∷ ss) = ap (λ (r : List Store). s ∷ r) (zip_parts ss)
 abbrev written : ℕ → ℕ → List ℕ → ℕ → List ℕ → List ℕ → List ℕ → List ℕ → List ℕ → List ℕ
 written n last doing count cut free places values end = n ∷ last ∷ doing ++ (0 ∷ count ∷ cut ++ (free ++ (places ++ (values ++ end))))
 
--- its free nodes and rows, and the word after them
+-- its free nodes and rows, and the words after them
 module _ (free places values end : List ℕ) (lf : length free ≡ word_count) (lp : length places ≡ 73) (lv : length values ≡ 73) where
   abbrev tail : List ℕ
   tail = free ++ (places ++ (values ++ end))
@@ -262,10 +271,10 @@ module _ (free places values end : List ℕ) (lf : length free ≡ word_count) (
   tail_values =
       ap (take 73) (sym (drop-drop 73 word_count tail) ∙ ap (drop 73) tail_rows ∙ drop_at places (values ++ end) 73 lp) ∙ take_at values end 73 lv
 
-  tail_end : get_or tail (word_count + 146) 0 ≡ get_or end 0 0
-  tail_end =
-      append_after free (places ++ (values ++ end)) 146 (word_count + 146) (omega arith) ∙ append_after places (values ++ end) 73 146 (omega arith)
-      ∙ append_after values end 0 73 (omega arith)
+  tail_word : (i : ℕ) → get_or tail ((word_count + 146) + i) 0 ≡ get_or end i 0
+  tail_word i =
+      append_after free (places ++ (values ++ end)) (146 + i) ((word_count + 146) + i) (omega arith) ∙ append_after places (values ++ end) (73 + i) (146 + i) (omega arith)
+      ∙ append_after values end i (73 + i) (omega arith)
 
   tail_after : drop (word_count + 147) tail ≡ drop 1 end
   tail_after =
@@ -362,7 +371,11 @@ module _ (b : List ℕ) (doing : Doing) (stores : List Store) (free : List Bool)
 
   depth_in_lem : block_word in_words depth_at ≡ block_word b depth_at
   depth_in_lem =
-      tail_end (words_of word_count free) places_row values_row (drop depth_at b) (length_words word_count free) places_row_lem values_row_lem ∙ get_or-drop depth_at b 0 0
+      tail_word (words_of word_count free) places_row values_row (drop depth_at b) (length_words word_count free) places_row_lem values_row_lem 0 ∙ get_or-drop depth_at b 0 0
+
+  back_in : block_word in_words back_at ≡ block_word b back_at
+  back_in =
+      tail_word (words_of word_count free) places_row values_row (drop depth_at b) (length_words word_count free) places_row_lem values_row_lem 18 ∙ get_or-drop depth_at b 18 0
 
   totals_in : part in_words totals_at family_count ≡ part b totals_at family_count
   totals_in =
@@ -370,7 +383,17 @@ module _ (b : List ℕ) (doing : Doing) (stores : List Store) (free : List Bool)
       (tail_after (words_of word_count free) places_row values_row (drop depth_at b) (length_words word_count free) places_row_lem values_row_lem ∙ drop-drop 1 depth_at b)
 
   pub memory_planned : memory_in planned
-      ≡ record { nodes = (memory_in b).nodes; free = free; last = last; doing = doing; rest = stores; cut = cut; depth = (memory_in b).depth; totals = (memory_in b).totals }
+      ≡ record {
+        nodes = (memory_in b).nodes;
+        free = free;
+        last = last;
+        doing = doing;
+        rest = stores;
+        cut = cut;
+        depth = (memory_in b).depth;
+        totals = (memory_in b).totals;
+        back = (memory_in b).back;
+      }
   unfolding memory_in
   memory_planned =
       ap memory_in (sym in_words_lem)
@@ -384,6 +407,7 @@ module _ (b : List ℕ) (doing : Doing) (stores : List Store) (free : List Bool)
         cut = before_zero (cut_word 0 ∷ cut_word 1 ∷ cut_word 2 ∷ []);
         depth = block_word in_words depth_at;
         totals = part in_words totals_at family_count;
+        back = block_word in_words back_at;
       })
       (tail_free (words_of word_count free) places_row values_row (drop depth_at b) (length_words word_count free) places_row_lem values_row_lem) stores_in
       ∙ ap₂ (λ (f : List Bool) (d : Doing). record {
@@ -395,6 +419,7 @@ module _ (b : List ℕ) (doing : Doing) (stores : List Store) (free : List Bool)
         cut = before_zero (cut_word 0 ∷ cut_word 1 ∷ cut_word 2 ∷ []);
         depth = block_word in_words depth_at;
         totals = part in_words totals_at family_count;
+        back = block_word in_words back_at;
       }) (nodes_words word_count free h.full) (doing_read doing)
       ∙ ap₂ (λ (c : List ℕ) (depth : ℕ). record {
         nodes = block_word b 0;
@@ -405,9 +430,12 @@ module _ (b : List ℕ) (doing : Doing) (stores : List Store) (free : List Bool)
         cut = c;
         depth = depth;
         totals = part in_words totals_at family_count;
+        back = block_word in_words back_at;
       })
       (ap before_zero cut_each ∙ h.readable) depth_in_lem
-      ∙ ap (λ (t : List ℕ). record { nodes = block_word b 0; free = free; last = last; doing = doing; rest = stores; cut = cut; depth = block_word b depth_at; totals = t }) totals_in
+      ∙ ap₂
+      (λ (t : List ℕ) (k : ℕ). record { nodes = block_word b 0; free = free; last = last; doing = doing; rest = stores; cut = cut; depth = block_word b depth_at; totals = t; back = k })
+      totals_in back_in
 
   -- and its first store made
   pub memory_first_stored : memory_in (played_block planned 1 (drop 1 stores)) ≡ advanced (planning (memory_in b) doing free last cut) (drop 1 stores)

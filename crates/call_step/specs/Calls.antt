@@ -19,7 +19,7 @@ use Rattle.state.specs.Steps.{held_by, Step, step_refused, step_final, format_st
 -- STEPS.
 -- the state with a change planned
 unfoldable pub planning : Memory → Doing → List Bool → ℕ → List ℕ → Memory
-planning m doing free last cut = record { nodes = m.nodes; free = free; last = last; doing = doing; rest = []; cut = cut; depth = m.depth; totals = m.totals }
+planning m doing free last cut = record { nodes = m.nodes; free = free; last = last; doing = doing; rest = []; cut = cut; depth = m.depth; totals = m.totals; back = m.back }
 
 -- a step where no change is in hand: refused, the final answer, or the first store of the change prepared, which has one
 unfoldable pub step_prepared : List ℕ → Memory → Doing → Answer → Preparation → Step

@@ -6,3 +6,5 @@ pub mod StepBlocks
 pub mod StepWords
 -- what a step promises of the card and of the block lent to it
 pub mod Clauses
+-- document 02, W-207: a step on a card of either form
+pub mod CardSteps

@@ -51,7 +51,7 @@ abbrev pub at_front : List ℕ → List ℕ → List ℕ
 at_front words row = words ++ drop (length words) row
 
 -- a change is planned: the node given last, what is being done, no store made, how many there are, what they cut out, the nodes free
--- then, the places and values of the stores, and the depth and the totals that were there
+-- then, the places and values of the stores, and the depth, the totals and the words after them that were there
 unfoldable pub planned_block : List ℕ → Doing → List Store → List Bool → ℕ → List ℕ → List ℕ
 planned_block b doing stores free last cut =
     block_word b 0 ∷ last ∷ doing_words doing

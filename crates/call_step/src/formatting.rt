@@ -5,6 +5,7 @@ ghost use Rattle.card.specs.Header.{Sized};
 ghost use Rattle.state.specs.Block.{state_words, block_word, memory_in};
 ghost use Rattle.state.specs.Steps.{formatted_word, format_store, step_format};
 ghost use Rattle.state.specs.declared.Answer.TheVariants.{Stored};
+ghost use Rattle.call_step.specs.CardSteps.{lines_word};
 ghost use Rattle.call_step.specs.Clauses.{StepMade};
 
 use crate::playing::finish;
@@ -17,7 +18,7 @@ const HEADER: u32 = card::HEADER_WORDS as u32;
 const NODE: u32 = card::NODE_WORDS as u32;
 
 // Word i of a formatted card with n nodes, but the mark: "root node 1, an empty leaf, all else 0".
-fn formatted_word(n: usize, i: usize) -> u32
+pub fn formatted_word(n: usize, i: usize) -> u32
     requires { n ≤ greatest_nodes }
     ensures { result ≡ formatted_word n i }
 {
@@ -31,8 +32,26 @@ fn formatted_word(n: usize, i: usize) -> u32
     }
 }
 
+// Where node 2 begins, the second line's root.
+const SECOND_LEAF: usize = card::HEADER_WORDS + card::NODE_WORDS;
+
+// The same of a card with two lines (document 02, W-207): "formatting gives roots 1 and 2", words 6 and 7 are the limits, and node 2 is an
+// empty leaf too.
+pub fn formatted_line_word(n: usize, first: u32, second: u32, i: usize) -> u32
+    requires { n ≤ greatest_nodes }
+    ensures { result ≡ lines_word n first second i }
+{
+    match i {
+        card::SECOND_ROOT => card::SECOND_FORMATTED_ROOT,
+        card::FIRST_LIMIT => first,
+        card::SECOND_LIMIT => second,
+        SECOND_LEAF => card::LEAF,
+        _ => formatted_word(n, i),
+    }
+}
+
 // A store of formatting in this place, which is told.
-fn store_format(card: &mut [u32], state: &mut [u32], place: u32, word: u32) -> Answer
+pub fn store_format(card: &mut [u32], state: &mut [u32], place: u32, word: u32) -> Answer
     requires { (length state.old ≡ state_words) × (place < length card.old)
         × (block_word state.old 3 ≤ length card.old) × (length card.old ≤ 8 + 24 * greatest_nodes) }
     ensures { (result ≡ Stored place) × (card.new ≡ set card.old place word)

@@ -4,6 +4,7 @@
 #![tactic(auto)]
 
 mod formatting;
+mod forms;
 mod planning;
 mod playing;
 

@@ -64,7 +64,7 @@ module _ (greatest : ℕ) where
 pub sized_any : {greatest len n : ℕ} → Sized greatest len n → Sized greatest_nodes len n
 sized_any s = record { words = s.words; least = s.least; most = s.most; within = s.most }
 
-must_zero : (card : List ℕ) (i v r next : ℕ) → must card i v (suc r) next ≡ 0 → (get_or card i 0 ≡ v) × (next ≡ 0)
+pub must_zero : (card : List ℕ) (i v r next : ℕ) → must card i v (suc r) next ≡ 0 → (get_or card i 0 ≡ v) × (next ≡ 0)
 must_zero card i v r next e =
     bool_cases (eqb (get_or card i 0) v)
     (λ t. (eqb-true (get_or card i 0) v t, rw t at e))

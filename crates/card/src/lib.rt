@@ -14,6 +14,7 @@
 ghost use Rattle.std.specs.Prelude.{◌≡◌, true, false, ◌+◌, ◌*◌, ◌≤◌, length, get_or};
 ghost use Rattle.card.specs.Layout.{greatest_nodes, limited, node_at, children, is_key, leaf_pairs};
 ghost use Rattle.card.specs.Lines.{IsLine, has_line, root_of, on_line};
+ghost use Rattle.card.specs.Forms.{limits_refusal, form_refusal, any_refusal};
 ghost use Rattle.card.specs.Header.{nodes_of_length, header_refusal, card_refusal, Sized};
 
 // The numbers of the drawing: the only places in code where they stand.
@@ -81,8 +82,15 @@ pub const SECOND_ROOT: usize = 5;
 // "A second form of card carries mark 2".
 pub const SECOND_MARK: u32 = 2;
 
-// "root node 1": the root that formatting makes.
+// "words 6 and 7 the most nodes each line may use".
+pub const FIRST_LIMIT: usize = 6;
+
+pub const SECOND_LIMIT: usize = 7;
+
+// "root node 1": the root that formatting makes; with a second line "roots 1 and 2".
 pub const FORMATTED_ROOT: u32 = 1;
+
+pub const SECOND_FORMATTED_ROOT: u32 = 2;
 
 // "Keys are 1 to 4,294,967,295": where the range of all keys begins and ends.
 pub const LOWEST_KEY: u32 = 1;
@@ -168,6 +176,71 @@ pub fn card_refusal(card: &[u32], greatest: usize) -> u32
         return 1;
     }
     header_refusal(card, n)
+}
+
+// Two limits together, which may pass 32 bits.
+fn together(first: u32, second: u32) -> usize
+    ensures { result ≡ first + second }
+{
+    first as usize + second as usize
+}
+
+// "17: a limit below 4 or the two together above N" (document 02, W-207), and 0 where that is not so.
+pub fn limits_refusal(first: u32, second: u32, n: usize) -> u32
+    ensures { result ≡ limits_refusal first second n }
+{
+    if (first as usize) < LEAST_NODES {
+        return 17;
+    }
+    if (second as usize) < LEAST_NODES {
+        return 17;
+    }
+    if n < together(first, second) {
+        return 17;
+    }
+    0
+}
+
+// The same of a card whose mark is not 1: 2, or those of the second form, of which 3 passes over words 5 to 7.
+fn second_form_refusal(card: &[u32], n: usize) -> u32
+    requires { (8 ≤ length card.now) × (get_or card.now 0 0 ≡ 1 → ⊥) }
+    ensures { result ≡ form_refusal card.now n }
+{
+    if card[0] != SECOND_MARK {
+        return 2;
+    }
+    if card[1] as usize != n {
+        return 3;
+    }
+    if card[2] != HEADER_WORDS as u32 {
+        return 3;
+    }
+    if card[3] != NODE_WORDS as u32 {
+        return 3;
+    }
+    limits_refusal(card[FIRST_LIMIT], card[SECOND_LIMIT], n)
+}
+
+// The refusal that the header of a card with n nodes is due, of either form: 2, 3, 17, or 0 for none.
+pub fn form_refusal(card: &[u32], n: usize) -> u32
+    requires { 8 ≤ length card.now }
+    ensures { result ≡ form_refusal card.now n }
+{
+    if card[0] != MARK {
+        return second_form_refusal(card, n);
+    }
+    header_refusal(card, n)
+}
+
+// The refusals 1, 2, 3 and 17 of a call on a card, in this order; 0 where none is due.
+pub fn any_refusal(card: &[u32], greatest: usize) -> u32
+    ensures { result ≡ any_refusal greatest card.now }
+{
+    let n = nodes_of(card.len(), greatest);
+    if n == 0 {
+        return 1;
+    }
+    form_refusal(card, n)
 }
 
 // Whether a card has a line of this number: one with mark 1 has line 1, one with mark 2 has lines 1 and 2 (document 02, W-207).

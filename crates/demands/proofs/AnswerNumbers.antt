@@ -1,5 +1,5 @@
 -- Refusals have numbers below 64, so that the number of an answer tells which answer it is.
-use mathlib.Core.Bool.{Bool, true, false}
+use mathlib.Core.Bool.{Bool, true, false, ◌||◌}
 use mathlib.Core.List.{List, [], ◌∷◌}
 use mathlib.Core.Path.{◌≡◌, refl}
 use mathlib.Core.Option.{Option, none, some}
@@ -8,6 +8,7 @@ use native.Mathlib.Omega.{arith}
 use lib.ListN.{length, get_or}
 use lib.Dec.{eqb, ltb}
 use Rattle.card.specs.Lines.{has_line, seen}
+use Rattle.card.specs.Forms.{second_mark, limit_place, limits_refusal, form_refusal, any_refusal}
 use Rattle.card.specs.Header.{nodes_of_length, header_refusal, card_refusal, must}
 use Rattle.walk.specs.declared.Landing.{Landing}
 use Rattle.walk.specs.declared.Landing.TheVariants.{Refused as NoLanding, Leaf as LandingAt}
@@ -20,10 +21,11 @@ use Rattle.walk.specs.declared.Reached.TheVariants.{Refused as NotReached, Leaf 
 use Rattle.call_find.specs.Find.{found_in, found_at, find_of, find_in}
 use Rattle.call_find.specs.declared.Found.{Found}
 use Rattle.call_find.specs.declared.Found.TheVariants.{Value as FoundValue, Absent as FoundAbsent, Refused as FoundRefused}
-use Rattle.card.specs.Layout.{node_at, search_start}
+use Rattle.card.specs.Layout.{node_at, search_start, least_nodes}
 use Rattle.laws.proofs.Cases.{bool_cases}
+use Rattle.call_open.specs.CardOpening.{line_check, short_of, open_lines, open_second, open_first, open_card}
 use Rattle.call_open.specs.Opening.{open_sound, open_checked, open_of}
-use Rattle.card_check.specs.Check.{Findings, table_check}
+use Rattle.card_check.specs.Check.{Findings, table_check, start}
 use Rattle.card_check.specs.Counting.{table_counted}
 use Rattle.call_start.specs.Starts.{start_refused, start_accepted, start_depth, start_landed, start_checked, start_of}
 use Rattle.state.specs.Memory.{Memory, advanced}
@@ -77,6 +79,47 @@ open_small greatest c =
     bool_cases (eqb (card_refusal greatest c) 0)
     (λ q. rw q (checked_small (nodes_of_length greatest (length c)) (search_start c) (table_counted c) (table_check c (nodes_of_length greatest (length c)))))
     (λ q. rw q (card_small greatest c))
+
+-- the same of a card of either form
+limits_small : (first second n : ℕ) → limits_refusal first second n < 64
+unfolding limits_refusal
+limits_small first second n =
+    bool_cases (ltb first least_nodes) (λ q. rw q (omega arith))
+    (λ q. bool_cases (ltb second least_nodes) (λ q₁. rw (q, q₁) (omega arith)) (λ q₁. bool_cases (ltb n (first + second)) (λ q₂. rw (q, q₁, q₂) (omega arith)) (λ q₂. rw (q, q₁, q₂) (omega arith))))
+
+form_small : (c : List ℕ) (n : ℕ) → form_refusal c n < 64
+unfolding form_refusal
+form_small c n =
+    bool_cases (eqb (get_or c 0 0) second_mark)
+    (λ q. rw q (must_small c 1 n 3 _ (omega arith) (must_small c 2 8 3 _ (omega arith) (must_small c 3 24 3 _ (omega arith) (limits_small (get_or c (limit_place 1) 0) (get_or c (limit_place 2) 0) n)))))
+    (λ q. rw q (header_small c n))
+
+any_small : (greatest : ℕ) (c : List ℕ) → any_refusal greatest c < 64
+unfolding any_refusal
+any_small greatest c = bool_cases (eqb (nodes_of_length greatest (length c)) 0) (λ q. rw q (omega arith)) (λ q. rw q (form_small c (nodes_of_length greatest (length c))))
+
+lines_small : (c : List ℕ) (n : ℕ) (f g : Findings) → SmallBegun (open_lines c n f g).begun
+unfolding open_lines
+lines_small c n f g = bool_cases (short_of c n f g 1 || short_of c n f g 2) (λ a. rw a (omega arith)) (λ a. bool_cases g.violated (λ v. rw (a, v) tt) (λ v. rw (a, v) tt))
+
+second_small : (c : List ℕ) (n : ℕ) (f : Findings) (x : Option (ℕ × Findings)) → SmallBegun (open_second c n f x).begun
+unfolding open_second
+second_small c n f none = omega arith
+second_small c n f (some r) = lines_small c n f r.1
+
+first_small : (c : List ℕ) (n : ℕ) (x : Option (ℕ × Findings)) → SmallBegun (open_first c n x).begun
+unfolding open_first
+first_small c n none = omega arith
+first_small c n (some r) = second_small c n r.1 (line_check 2 c n r.1)
+
+pub open_card_small : (greatest : ℕ) (c : List ℕ) → SmallBegun (open_card greatest c).begun
+unfolding open_card
+open_card_small greatest c =
+    bool_cases (eqb (any_refusal greatest c) 0)
+    (λ q. bool_cases (eqb (get_or c 0 0) second_mark)
+    (λ q₁. rw (q, q₁) (first_small c (nodes_of_length greatest (length c)) (line_check 1 c (nodes_of_length greatest (length c)) (start (nodes_of_length greatest (length c))))))
+    (λ q₁. rw (q, q₁) (open_small greatest c)))
+    (λ q. rw q (any_small greatest c))
 
 landed_small : (m : Memory) (doing : Doing) (depth : ℕ) (room : Bool) (l : Landing) → SmallBegun (start_landed m doing depth room l).begun
 unfolding start_landed start_refused start_accepted

@@ -8,10 +8,10 @@ use mathlib.Core.Option.{Option}
 use Prim.Native.Nat.{ℕ, zero, suc, ◌-◌, ◌≤◌, ◌<◌}
 use native.Mathlib.Omega.{arith}
 use lib.ListN.{length, get_or, set, drop, length-append}
-use Rattle.theory_change.proofs.Line.{only, exact_only}
+use Rattle.theory_change.proofs.Line.{Line, Partition}
 use Rattle.card.specs.Stores.{Store}
-use Rattle.demands.specs.Events.{Event, World, reply_to, happens, run, LeftUncut, steps_in, ask, insert, delete, step, cut}
-use Rattle.demands.specs.Demand2.{StoresNow, Makes, Between, Repairs, Updates, done, mends as mends-by, no_change, changes}
+use Rattle.demands.specs.Events.{Event, World, reply_to, happens, run, LeftUncut, steps_in, ask, insert, delete, step, elsewhere, cut}
+use Rattle.demands.specs.Demand2.{StoresNow, Makes}
 use Rattle.demands.specs.Rules.{Given, marked}
 use Rattle.demands.specs.RationTable.{ration_table}
 use Rattle.demands.proofs.Making.{Nears, nearer, store_at, Left, run_left, stores_each}
@@ -46,13 +46,12 @@ use Rattle.demands.specs.Book.{Update, Hand}
 use Rattle.demands.proofs.Kept.{first_storable}
 use Rattle.demands.proofs.Reopen.{table_well_formed}
 use Rattle.demands.proofs.Starting.{nodes_same}
-use Rattle.demands.proofs.PowerCuts.{Covered}
+use Rattle.demands.proofs.Mending.{Pausing, Mending, Updating, mended, mends_next, unchanged, changes_first}
 use Rattle.demands.proofs.Stepping.{Right, right_final, kept_step, mends, rests}
-use Rattle.demands.proofs.PowerLoss.{loosen, loosen_due, ask_same, insert_same, delete_same}
+use Rattle.demands.proofs.PowerLoss.{loosen, loosen_due, ask_same, elsewhere_same, insert_same, delete_same}
 use Rattle.demands.proofs.Finished.{work_not_refused}
 use Rattle.demands.proofs.Steps.{memory, job_settled, step_repairs, prepared_ready, prepared_first, step_puts, step_removes}
 use Rattle.theory_tree.proofs.Path.{depth_of}
-use Rattle.theory_tree.specs.FreeNodes.{Exact}
 use Rattle.theory_tree.specs.Tree.{Tree}
 use Rattle.theory_tree.specs.Violations.{table_violations}
 
@@ -64,6 +63,7 @@ first_step : (greatest : ℕ) (w : World (ration_table greatest)) (qs : List Eve
 unfolding LeftUncut run
 first_step greatest w [] u = inl (refl, refl)
 first_step greatest w (ask question ∷ qs) u = rw (ask_same greatest question w) (first_step greatest w qs (rw (ask_same greatest question w) at u.1))
+first_step greatest w (elsewhere x ∷ qs) u = rw (elsewhere_same greatest x w) (first_step greatest w qs (rw (elsewhere_same greatest x w) at u.1))
 first_step greatest w (insert key value ∷ qs) u = let e = insert_same greatest key value w u.0 in rw e (first_step greatest w qs (rw e at u.1))
 first_step greatest w (delete key ∷ qs) u = let e = delete_same greatest key w u.0 in rw e (first_step greatest w qs (rw e at u.1))
 first_step greatest w (step ∷ qs) u = inr (qs, u.1, refl, refl)
@@ -98,33 +98,33 @@ drop_some (s ∷ ss) zero h = omega arith
 drop_some (s ∷ ss) (suc k) h = drop_some ss k (omega arith)
 
 -- A change whose first store the next step makes, with m the plan and the rest of the stores to come.
-module _ (greatest : ℕ) (final : Answer) (most : ℕ) (w : World (ration_table greatest)) (x : Nears greatest final most w) (m : Memory) (s : Store) (rest : List Store)
+module _ (greatest : ℕ) (line : Line) (final : Answer) (most : ℕ) (w : World (ration_table greatest)) (x : Nears greatest line final most w) (m : Memory) (s : Store) (rest : List Store)
     (first : step_of greatest 1 w.card w.state ≡ record { answer = Stored s.0; card = set w.card s.0 s.1; memory = advanced m rest })
   where
     first_stored_lem : StoresNow (ration_table greatest) w s
     unfolding reply_to happens step_reply
     first_stored_lem = record { reply_given = rw first; one_store = rw first }
 
-    then_left : (few : ℕ) × (most ≡ suc few) × Left greatest final m few rest (happens (ration_table greatest) step w)
+    then_left : (few : ℕ) × (most ≡ suc few) × Left greatest line final m few rest (happens (ration_table greatest) step w)
     unfolding happens
     then_left =
-        let q = nearer greatest final most w x (s.0, ap (λ z. z.answer) first) in
+        let q = nearer greatest line final most w x (s.0, ap (λ z. z.answer) first) in
         (q.0, q.1, record { nears = q.2; is_left = ap (λ z. z.memory) first })
 
     pub all_left : (qs : List Event) → LeftUncut (ration_table greatest) qs w → steps_in qs ≡ suc (length rest)
-        → (few : ℕ) × (few < most) × Left greatest final m few [] (run (ration_table greatest) qs w)
+        → (few : ℕ) × (few < most) × Left greatest line final m few [] (run (ration_table greatest) qs w)
     all_left qs u h = at (first_step greatest w qs u)
       where
         at : ((steps_in qs ≡ 0) × (run (ration_table greatest) qs w ≡ w))
             ⊎ ((more : List Event) × LeftUncut (ration_table greatest) more (happens (ration_table greatest) step w) × (steps_in qs ≡ suc (steps_in more))
             × (run (ration_table greatest) qs w ≡ run (ration_table greatest) more (happens (ration_table greatest) step w)))
-            → (few : ℕ) × (few < most) × Left greatest final m few [] (run (ration_table greatest) qs w)
+            → (few : ℕ) × (few < most) × Left greatest line final m few [] (run (ration_table greatest) qs w)
         at (inl (z, e)) = absurd (omega (arith, z, h))
         at (inr (more, v, k, e)) =
             let l = then_left in
-            let r = run_left greatest final m l.0 rest (happens (ration_table greatest) step w) l.2 more v (omega (arith, k, h)) in
+            let r = run_left greatest line final m l.0 rest (happens (ration_table greatest) step w) l.2 more v (omega (arith, k, h)) in
             let d = drop_all rest (steps_in more) (omega (arith, k, h)) in
-            (r.0, omega (arith, r.1, l.1), rw e (subst (λ (y : List Store). Left greatest final m r.0 y (run (ration_table greatest) more (happens (ration_table greatest) step w))) d r.2))
+            (r.0, omega (arith, r.1, l.1), rw e (subst (λ (y : List Store). Left greatest line final m r.0 y (run (ration_table greatest) more (happens (ration_table greatest) step w))) d r.2))
 
     module _ (short : suc (length rest) ≤ 73) (given out : List ℕ) (taken : Given w.state.free w.state.last given)
         (is_free : m.free ≡ marked false given w.state.free) (is_last : m.last ≡ get_or given (length given - 1) w.state.last)
@@ -141,7 +141,7 @@ module _ (greatest : ℕ) (final : Answer) (most : ℕ) (w : World (ration_table
                   × (run (ration_table greatest) qs w ≡ run (ration_table greatest) more (happens (ration_table greatest) step w)))
                   → StoresNow (ration_table greatest) (run (ration_table greatest) qs w) (store_at (s ∷ rest) (steps_in qs))
               at (inl (z, e)) = rw (z, e) first_stored_lem
-              at (inr (more, v, k, e)) = rw (k, e) (stores_each greatest final m then_left.0 rest (happens (ration_table greatest) step w) then_left.2 more v (omega (arith, k, h)))
+              at (inr (more, v, k, e)) = rw (k, e) (stores_each greatest line final m then_left.0 rest (happens (ration_table greatest) step w) then_left.2 more v (omega (arith, k, h)))
 
           state_at : (qs : List Event) → LeftUncut (ration_table greatest) qs w → 0 < steps_in qs → steps_in qs ≤ suc (length rest)
               → (k : ℕ) × (steps_in qs ≡ suc k) × ((run (ration_table greatest) qs w).state ≡ advanced m (drop k rest))
@@ -155,7 +155,7 @@ module _ (greatest : ℕ) (final : Answer) (most : ℕ) (w : World (ration_table
               at (inr (more, v, k, e)) = (
                 steps_in more,
                 k,
-                rw e (run_left greatest final m then_left.0 rest
+                rw e (run_left greatest line final m then_left.0 rest
                     (happens (ration_table greatest) step w) then_left.2 more v (omega (arith, k, h))).2.is_left,
               )
 
@@ -208,12 +208,12 @@ record RepairNext (greatest : ℕ) (c : List ℕ) (n : ℕ) (m : Memory) : Type 
   pub first_made : step_of greatest 1 c m ≡ record {
     answer = Stored first.0;
     card = set c first.0 first.1;
-    memory = advanced (memory n then_free then_last m.depth m.totals m.doing [] out) rest;
+    memory = advanced (memory n then_free then_last m.depth m.totals m.back m.doing [] out) rest;
   }
 
 -- the final answer, or the next change
-abbrev Turns : ℕ → List ℕ → ℕ → Tree → Memory → Answer → Type 0
-Turns greatest c n t m due = Exact n m.free t × (((table_violations t ≡ 0) × ((step_of greatest 1 c m).answer ≡ due)) ⊎ RepairNext greatest c n m)
+abbrev Turns : ℕ → List ℕ → Line → Tree → Memory → Answer → Type 0
+Turns greatest c line t m due = Partition line m.free t × (((table_violations t ≡ 0) × ((step_of greatest 1 c m).answer ≡ due)) ⊎ RepairNext greatest c line.nodes m)
 
 idle_no_job : {phase : Phase} {doing : Doing} {key : ℕ} {final : Answer} {u : Option Update} → Job phase doing key final u → doing ≡ Idle → ⊥
 idle_no_job job_repair e = impossible (cc)
@@ -232,31 +232,31 @@ remove_no_job k (job_insert p) e = impossible (cc)
 remove_no_job k (job_delete in_hand_lem) e = impossible (cc)
 remove_no_job k (job_delete decided) e = impossible (cc)
 
-turns_at : (greatest : ℕ) {c : List ℕ} {n : ℕ} {t goal : Tree} {steps : ℕ} {m : Memory} {h : Hand} {due : Answer} → Table greatest c n t → Openable n t
-    → Stage c (only n) t goal steps m h due → m.rest ≡ [] → Begun m.doing → Turns greatest c n t m due
+turns_at : (greatest : ℕ) {c : List ℕ} {line : Line} {t goal : Tree} {steps : ℕ} {m : Memory} {h : Hand} {due : Answer} → Table greatest c line.nodes t → Openable line.limit t
+    → Stage c line t goal steps m h due → m.rest ≡ [] → Begun m.doing → Turns greatest c line t m due
 turns_at greatest b o (stage_idle z r x g) e k = absurd (idle_no_job k.4 refl)
 turns_at greatest b o (stage_put {key = key} {value = value} room z r x low high enough below q g) e k = absurd (put_no_job key value k.4 refl)
 turns_at greatest b o (stage_remove {key = key} z r x low high q g) e k = absurd (remove_no_job key k.4 refl)
 turns_at greatest b o (stage_first {s = s} {rest = rest} j p en count few hd) e k = let y : ◌≡◌ {A = List Store} (s ∷ rest) [] = e in impossible (cc)
 turns_at greatest b o (stage_within {s = s} {rest = rest} j en p q few hd) e k = let y : ◌≡◌ {A = List Store} (s ∷ rest) [] = e in impossible (cc)
-turns_at greatest {c} {n} {t} {due = due} b o (stage_between {free} {last} {depth} {key} {doing} {totals = totals} j en deep (settled z r) x few hd) e k = (
-  exact_only n free t x,
+turns_at greatest {c} {line} {t} {due = due} b o (stage_between {free} {last} {depth} {key} {doing} {totals = totals} {back = back} j en deep (settled z r) x few hd) e k = (
+  x,
   inl (
     z,
-    ap (λ y. y.answer) (step_repairs greatest c n b.sized b.header free last depth totals j
-        ∙ prepared_ready c (memory n free last depth totals doing [] []) doing due (next_repair c n key free last) (rests greatest c n key t free last b z)),
+    ap (λ y. y.answer) (step_repairs greatest c line.nodes b.sized b.header free last depth totals back j
+        ∙ prepared_ready c (memory line.nodes free last depth totals back doing [] []) doing due (next_repair c line.nodes key free last) (rests greatest c line.nodes key t free last b z)),
   ),
 )
-turns_at greatest {c} {n} {t} {due = due} b o (stage_between {free} {last} {depth} {key} {doing} {totals = totals} j en deep (violated v w r) x few hd) e k =
-    (exact_only n free t x, inr (apply (mends greatest c (only n) key t free last b x v w r)))
+turns_at greatest {c} {line} {t} {due = due} b o (stage_between {free} {last} {depth} {key} {doing} {totals = totals} {back = back} j en deep (violated v w r) x few hd) e k =
+    (x, inr (apply (mends greatest c line key t free last b x v w r)))
   where
-    apply : Repaired c (only n) key t free last (depth_of v.context) → RepairNext greatest c n (memory n free last depth totals doing [] [])
+    apply : Repaired c line key t free last (depth_of v.context) → RepairNext greatest c line.nodes (memory line.nodes free last depth totals back doing [] [])
     apply q = split q.stores refl
       where
-        split : (ss : List Store) → q.stores ≡ ss → RepairNext greatest c n (memory n free last depth totals doing [] [])
+        split : (ss : List Store) → q.stores ≡ ss → RepairNext greatest c line.nodes (memory line.nodes free last depth totals back doing [] [])
         split [] e₁ = let z = ap length (sym e₁ ∙ q.pending.is_rest) in absurd (omega (arith, simp length-append at z))
         split (s ∷ rest) e₁ =
-            let planned : next_repair c n key free last ≡ prepared (s ∷ rest) q.free_then q.last_then q.cut = rw e₁ at q.planned in
+            let planned : next_repair c line.nodes key free last ≡ prepared (s ∷ rest) q.free_then q.last_then q.cut = rw e₁ at q.planned in
             let p = pending_changing b.holds b.sound o (rw e₁ at q.pending) in
             record {
               key = key;
@@ -267,48 +267,42 @@ turns_at greatest {c} {n} {t} {due = due} b o (stage_between {free} {last} {dept
               out = q.cut;
               planned = planned;
               short = rw e₁ at q.short;
-              first_made = step_repairs greatest c n b.sized b.header free last depth totals j ∙ prepared_first c (memory n free last depth totals doing [] []) doing due
-                  (next_repair c n key free last) s rest q.free_then q.last_then q.cut planned (first_storable p.0.plays).inside;
+              first_made = step_repairs greatest c line.nodes b.sized b.header free last depth totals back j
+                  ∙ prepared_first c (memory line.nodes free last depth totals back doing [] []) doing due
+                  (next_repair c line.nodes key free last) s rest q.free_then q.last_then q.cut planned (first_storable p.0.plays).inside;
             }
 
 -- one turn of a repair, where all that come after it are by the rules
-repair_next : (greatest : ℕ) (final : Answer) (most : ℕ) (w : World (ration_table greatest)) (x : Nears greatest final most w) → Begun w.state.doing
-    → Turns greatest w.card x.covered.size x.covered.inv.tree w.state x.covered.inv.due
-    → ((few : ℕ) (v : World (ration_table greatest)) → few < most → Nears greatest final few v → v.state.rest ≡ [] → Begun v.state.doing
-    → Repairs (ration_table greatest) (step_reply final) v) → Repairs (ration_table greatest) (step_reply final) w
+repair_next : (greatest : ℕ) (line : Line) (final : Answer) (most : ℕ) (w : World (ration_table greatest)) (x : Nears greatest line final most w) → Begun w.state.doing
+    → Turns greatest w.card line x.inv.tree w.state x.inv.due
+    → ((few : ℕ) (v : World (ration_table greatest)) → few < most → Nears greatest line final few v → v.state.rest ≡ [] → Begun v.state.doing
+    → Mending greatest line (step_reply final) v) → Mending greatest line (step_reply final) w
 unfolding reply_to
-repair_next greatest final most w x k (exact, turn) later = at turn
+repair_next greatest line final most w x k (parted, turn) later = at turn
   where
-    v : Covered greatest w x.book_now
-    v = x.covered
+    pausing : Pausing greatest line w x.inv.tree
+    pausing = record { sound = table_well_formed greatest x.inv.table; nodes_are = nodes_same greatest line x.steps w x.book_now x.inv; parted = parted }
 
-    between : Between (ration_table greatest) w v.inv.tree
-    between =
-        record {
-          sound = table_well_formed greatest v.inv.table;
-          free_exact = subst (λ y. Exact y w.state.free v.inv.tree) (sym (nodes_same greatest (only v.size) v.steps w x.book_now v.inv)) exact;
-        }
-
-    at : ((table_violations v.inv.tree ≡ 0) × ((step_of greatest 1 w.card w.state).answer ≡ v.inv.due))
-        ⊎ RepairNext greatest w.card v.size w.state → Repairs (ration_table greatest) (step_reply final) w
-    at (inl (z, a)) = done v.inv.tree between z (ap step_reply (a ∙ x.is_due))
+    at : ((table_violations x.inv.tree ≡ 0) × ((step_of greatest 1 w.card w.state).answer ≡ x.inv.due))
+        ⊎ RepairNext greatest w.card line.nodes w.state → Mending greatest line (step_reply final) w
+    at (inl (z, a)) = mended x.inv.tree pausing z (ap step_reply (a ∙ x.is_due))
     at (inr q) =
-        let r = repair_by_rule w.card v.size q.key q.planned in
-        let m = memory v.size q.then_free q.then_last w.state.depth w.state.totals w.state.doing [] q.out in
-        mends-by v.inv.tree between r.rule
-        (change_made greatest final most w x m q.first q.rest q.first_made q.short r.given q.out r.in_turn r.left
+        let r = repair_by_rule w.card line.nodes q.key q.planned in
+        let m = memory line.nodes q.then_free q.then_last w.state.depth w.state.totals w.state.back w.state.doing [] q.out in
+        mends_next x.inv.tree pausing r.rule
+        (change_made greatest line final most w x m q.first q.rest q.first_made q.short r.given q.out r.in_turn r.left
         (r.given_last ∙ last_same w.state.last r.given) refl (cut_marked q.out q.then_free))
-        (λ qs u n. let l = all_left greatest final most w x m q.first q.rest q.first_made qs u n in
+        (λ qs u n. let l = all_left greatest line final most w x m q.first q.rest q.first_made qs u n in
         later l.0 (run (ration_table greatest) qs w) l.1 l.2.nears (ap (λ (y : Memory). y.rest) l.2.is_left ∙ advanced_none m)
         (subst Begun (sym (ap (λ (y : Memory). y.doing) l.2.is_left ∙ advanced_doing m)) (begun_settled k)))
 
 -- "Repairs go on until balanced": as many changes as there are steps left, at most
-pub repairs_by_rules : (greatest : ℕ) (final : Answer) (bound most : ℕ) (w : World (ration_table greatest)) → most < bound → Nears greatest final most w → w.state.rest ≡ []
-    → Begun w.state.doing → Repairs (ration_table greatest) (step_reply final) w
-repairs_by_rules greatest final zero most w h x e k = absurd (omega arith)
-repairs_by_rules greatest final (suc bound) most w h x e k =
-    repair_next greatest final most w x k (turns_at greatest x.covered.inv.table x.covered.inv.openable x.covered.inv.stage e k)
-    (λ few v l y e' k'. repairs_by_rules greatest final bound few v (omega (arith, l, h)) y e' k')
+pub repairs_by_rules : (greatest : ℕ) (line : Line) (final : Answer) (bound most : ℕ) (w : World (ration_table greatest)) → most < bound → Nears greatest line final most w → w.state.rest ≡ []
+    → Begun w.state.doing → Mending greatest line (step_reply final) w
+repairs_by_rules greatest line final zero most w h x e k = absurd (omega arith)
+repairs_by_rules greatest line final (suc bound) most w h x e k =
+    repair_next greatest line final most w x k (turns_at greatest x.inv.table x.inv.openable x.inv.stage e k)
+    (λ few v l y e' k'. repairs_by_rules greatest line final bound few v (omega (arith, l, h)) y e' k')
 
 -- ---- the first change of an update
 
@@ -319,82 +313,81 @@ final_counts a (inr (inl (v, e))) = rw e tt
 final_counts a (inr (inr e)) = rw e tt
 
 -- The first step of an update: what is planned is by the rule, or there is nothing to change.
-module _ (greatest : ℕ) (final : Answer) (most : ℕ) (w : World (ration_table greatest)) (x : Nears greatest final most w)
+module _ (greatest : ℕ) (line : Line) (final : Answer) (most : ℕ) (w : World (ration_table greatest)) (x : Nears greatest line final most w)
     (busy : is_idle w.state.doing ≡ false) (Nothing : Type 0) (Rule : List ℕ → List ℕ → List Store → Type 0)
     (short : (given out : List ℕ) (ss : List Store) → Rule given out ss → length ss ≤ 73)
   where
     not_refused : (r : ℕ) → step_of greatest 1 w.card w.state ≡ step_refused r w.card w.state → ⊥
     unfolding step_refused
-    not_refused r e = let v = x.covered in work_not_refused greatest (only v.size) v.steps w x.book_now v.inv busy r (ap (λ y. y.answer) e)
+    not_refused r e = work_not_refused greatest line x.steps w x.book_now x.inv busy r (ap (λ y. y.answer) e)
 
     ends_due : (a : Answer) → Final a → step_of greatest 1 w.card w.state ≡ step_final a w.card w.state → a ≡ final
     unfolding step_final
     ends_due a f e =
-        let v = x.covered in
-        let i = loosen greatest (only v.size) v.steps (suc v.steps) w x.book_now (omega arith) v.inv in
-        let q = kept_step greatest (only v.size) v.steps w x.book_now i in
+        let i = loosen greatest line x.steps (suc x.steps) w x.book_now (omega arith) x.inv in
+        let q = kept_step greatest line x.steps w x.book_now i in
         right_final (subst (λ y. Right y i.due) (ap (λ y. y.answer) e) q.1) (final_counts a f)
-        ∙ loosen_due greatest (only v.size) v.steps (suc v.steps) w x.book_now (omega arith) v.inv ∙ x.is_due
+        ∙ loosen_due greatest line x.steps (suc x.steps) w x.book_now (omega arith) x.inv ∙ x.is_due
 
     pub first_by_rules : (f : FirstChange) → step_of greatest 1 w.card w.state ≡ step_begin w.card w.state f → Final f.final
         → Storing f.preparation → (f.preparation ≡ balanced → f.final ≡ final → Nothing)
         → ((ss : List Store) (fewer : List Bool) (now : ℕ) (out : List ℕ) → f.preparation ≡ prepared ss fewer now out
         → ByRule Rule w.state.free w.state.last ss fewer now out × Begun f.doing)
-        → Updates (ration_table greatest) Nothing Rule (step_reply final) w
+        → Updating greatest line Nothing Rule (step_reply final) w
     unfolding step_begin step_prepared step_store planning reply_to step_final Storing more_to_store
     first_by_rules f e fin stores none_due rule = at f.preparation refl stores
       where
-        at : (p : Preparation) → f.preparation ≡ p → Storing p → Updates (ration_table greatest) Nothing Rule (step_reply final) w
+        at : (p : Preparation) → f.preparation ≡ p → Storing p → Updating greatest line Nothing Rule (step_reply final) w
         at refused q st = absurd (not_refused 9 (e ∙ ap (step_prepared w.card w.state f.doing f.final) q))
         at balanced q st =
             let s : step_of greatest 1 w.card w.state ≡ step_final f.final w.card w.state = e ∙ ap (step_prepared w.card w.state f.doing f.final) q in
-            no_change (none_due q (ends_due f.final fin s)) (ap (λ y. step_reply y.answer) s ∙ ap step_reply (ends_due f.final fin s))
+            unchanged (none_due q (ends_due f.final fin s)) (ap (λ y. step_reply y.answer) s ∙ ap step_reply (ends_due f.final fin s))
         at (prepared [] fewer now out) q st = true_false (sym st)
         at (prepared (s ∷ rest) fewer now out) q st =
             order s.0 (length w.card) inside
             (λ o. absurd (not_refused 9 (e ∙ ap (step_prepared w.card w.state f.doing f.final) q ∙ rw (le-ltb s.0 (length w.card) o))))
           where
             m : Memory
-            m = memory w.state.nodes fewer now w.state.depth w.state.totals f.doing [] out
+            m = memory w.state.nodes fewer now w.state.depth w.state.totals w.state.back f.doing [] out
 
-            inside : s.0 < length w.card → Updates (ration_table greatest) Nothing Rule (step_reply final) w
+            inside : s.0 < length w.card → Updating greatest line Nothing Rule (step_reply final) w
             inside o =
                 let first : step_of greatest 1 w.card w.state ≡ record {
                   answer = Stored s.0;
                   card = set w.card s.0 s.1;
-                  memory = advanced (memory w.state.nodes fewer now w.state.depth w.state.totals f.doing [] out) rest;
+                  memory = advanced (memory w.state.nodes fewer now w.state.depth w.state.totals w.state.back f.doing [] out) rest;
                 } = e ∙ ap (step_prepared w.card w.state f.doing f.final) q ∙ rw (lt-ltb s.0 (length w.card) o) in
                 let r = rule (s ∷ rest) fewer now out q in
-                changes r.0.rule
-                (change_made greatest final most w x m s rest first (short r.0.given out (s ∷ rest) r.0.rule) r.0.given out
+                changes_first r.0.rule
+                (change_made greatest line final most w x m s rest first (short r.0.given out (s ∷ rest) r.0.rule) r.0.given out
                 r.0.in_turn r.0.left (r.0.given_last ∙ last_same w.state.last r.0.given) refl (cut_marked out fewer))
-                (λ qs u n. let l = all_left greatest final most w x m s rest first qs u n in
-                repairs_by_rules greatest final (suc l.0) l.0 (run (ration_table greatest) qs w) (omega arith) l.2.nears
+                (λ qs u n. let l = all_left greatest line final most w x m s rest first qs u n in
+                repairs_by_rules greatest line final (suc l.0) l.0 (run (ration_table greatest) qs w) (omega arith) l.2.nears
                 (ap (λ (y : Memory). y.rest) l.2.is_left ∙ advanced_none m)
                 (subst Begun (sym (ap (λ (y : Memory). y.doing) l.2.is_left ∙ advanced_doing m)) (begun_settled r.1)))
 
 -- where an update stands that has just been started
-pub put_turns : (greatest : ℕ) {c : List ℕ} {n : ℕ} {t goal : Tree} {steps : ℕ} {m : Memory} {h : Hand} {due : Answer} (key value : ℕ) → Table greatest c n t
-    → Stage c (only n) t goal steps m h due → m.doing ≡ Inserting key value NotBegun
-    → step_of greatest 1 c m ≡ step_begin c m (next_change c n m.free m.last (Inserting key value NotBegun) (PutIn key value))
+pub put_turns : (greatest : ℕ) {c : List ℕ} {line : Line} {t goal : Tree} {steps : ℕ} {m : Memory} {h : Hand} {due : Answer} (key value : ℕ) → Table greatest c line.nodes t
+    → Stage c line t goal steps m h due → m.doing ≡ Inserting key value NotBegun
+    → step_of greatest 1 c m ≡ step_begin c m (next_change c line.nodes m.free m.last (Inserting key value NotBegun) (PutIn key value))
 put_turns greatest key value b (stage_idle z r x g) e = impossible (cc)
-put_turns greatest {c} {n} key value b (stage_put {free} {last} {depth} {key = k} {value = v} {totals = totals} room z r x low high enough below q g) e =
+put_turns greatest {c} {line} key value b (stage_put {free} {last} {depth} {key = k} {value = v} {totals = totals} {back = back} room z r x low high enough below q g) e =
     let ek : k ≡ key = cc in
     let ev : v ≡ value = cc in
-    rw (← ek, ← ev) (step_puts greatest c n b.sized b.header free last depth totals k v)
+    rw (← ek, ← ev) (step_puts greatest c line.nodes b.sized b.header free last depth totals back k v)
 put_turns greatest key value b (stage_remove z r x low high q g) e = impossible (cc)
 put_turns greatest key value b (stage_first j p en count few hd) e = absurd (put_no_job key value j e)
 put_turns greatest key value b (stage_between j en deep k x few hd) e = absurd (put_no_job key value j e)
 put_turns greatest key value b (stage_within j en p q few hd) e = absurd (put_no_job key value j e)
 
-pub remove_turns : (greatest : ℕ) {c : List ℕ} {n : ℕ} {t goal : Tree} {steps : ℕ} {m : Memory} {h : Hand} {due : Answer} (key : ℕ)
-    → Table greatest c n t → Stage c (only n) t goal steps m h due → m.doing ≡ Deleting key NotBegun 0
-    → step_of greatest 1 c m ≡ step_begin c m (next_change c n m.free m.last (Deleting key NotBegun 0) (TakeOut key))
+pub remove_turns : (greatest : ℕ) {c : List ℕ} {line : Line} {t goal : Tree} {steps : ℕ} {m : Memory} {h : Hand} {due : Answer} (key : ℕ)
+    → Table greatest c line.nodes t → Stage c line t goal steps m h due → m.doing ≡ Deleting key NotBegun 0
+    → step_of greatest 1 c m ≡ step_begin c m (next_change c line.nodes m.free m.last (Deleting key NotBegun 0) (TakeOut key))
 remove_turns greatest key b (stage_idle z r x g) e = impossible (cc)
 remove_turns greatest key b (stage_put room z r x low high enough below q g) e = impossible (cc)
-remove_turns greatest {c} {n} key b (stage_remove {free} {last} {depth} {key = k} {totals = totals} z r x low high q g) e =
+remove_turns greatest {c} {line} key b (stage_remove {free} {last} {depth} {key = k} {totals = totals} {back = back} z r x low high q g) e =
     let ek : k ≡ key = cc in
-    rw (← ek) (step_removes greatest c n b.sized b.header free last depth totals k)
+    rw (← ek) (step_removes greatest c line.nodes b.sized b.header free last depth totals back k)
 remove_turns greatest key b (stage_first j p en count few hd) e = absurd (remove_no_job key j e)
 remove_turns greatest key b (stage_between j en deep k x few hd) e = absurd (remove_no_job key j e)
 remove_turns greatest key b (stage_within j en p q few hd) e = absurd (remove_no_job key j e)

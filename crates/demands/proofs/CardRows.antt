@@ -17,6 +17,7 @@ use Rattle.card.specs.Replies.{Reply, refusal, holds, absent}
 use Rattle.demands.specs.Demand1.{beside_first, ReadsLeaf, HandsNone, StartsFormat, OpensTo}
 use Rattle.demands.specs.Way.{nodes_on, leads_to}
 use Rattle.demands.specs.Refusals.{ByRows, Scarce, find_rows, format_rows, open_rows, end, row}
+use Rattle.call_start.specs.CardStarts.{one_line}
 use Rattle.demands.specs.RationTable.{work_of, handed, ration_table}
 use Rattle.demands.proofs.FirstRows.{NoCard, sized?, no_nodes, by_card, card_one}
 use Rattle.demands.proofs.WayDown.{arrived, reached_leaf, leaf_way}
@@ -131,8 +132,8 @@ unfolding resting work_of start_reply
 format_begun_lem greatest c = record { reply_given = refl; in_progress = refl; nodes_noted = refl }
 
 pub formats : (greatest : ℕ) (c : List ℕ)
-    → ByRows (format_rows greatest c (nodes_on c)) (HandsNone (ration_table greatest) ((ration_table greatest).format c))
-    (StartsFormat (ration_table greatest) c ((ration_table greatest).format c))
+    → ByRows (format_rows greatest c (nodes_on c)) (HandsNone (ration_table greatest) ((ration_table greatest).format one_line c))
+    (StartsFormat (ration_table greatest) c ((ration_table greatest).format one_line c))
 unfolding ByRows
 formats greatest c = go (sized? greatest (length c) (nodes_on c))
   where

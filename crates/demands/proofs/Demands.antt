@@ -9,7 +9,7 @@ use Rattle.demands.specs.Demand3.{Demand3}
 use Rattle.demands.specs.Dumps.{Dumps}
 use Rattle.demands.specs.List.{ListProgram}
 use Rattle.demands.specs.RationTable.{ration_table}
-use Rattle.demands.specs.W201.{W201}
+use Rattle.demands.specs.W201.{next_rows, W201}
 use Rattle.demands.specs.W202.{W202}
 use Rattle.demands.specs.W203.{W203}
 use Rattle.demands.specs.W204.{W204}
@@ -29,7 +29,7 @@ use Rattle.demands.proofs.FirstSteps.{demand_1 as rows-kept}
 use Rattle.demands.proofs.Dictionary.{demand_2 as dictionary-kept}
 use Rattle.demands.proofs.PowerCuts.{demand_3 as book-kept}
 use Rattle.demands.proofs.DumpsRight.{dumps_right as dumps-kept}
-use Rattle.demands.proofs.ListRight.{list_program as list-kept}
+use Rattle.demands.proofs.ListRight.{list_program as list_kept}
 use Rattle.demands.proofs.NextNumber.{w_201 as next-kept}
 use Rattle.demands.proofs.PaddingTest.{w_202 as padding-kept}
 use Rattle.call_find.specs.Find.{find_depth}
@@ -51,10 +51,10 @@ pub record Promises (greatest : ℕ) : Type 0 where
   pub dumps : Dumps greatest (λ dump lent. (dump_reply (read_answer greatest dump (length lent)), read_over greatest dump lent))
       (λ card lent. (dump_reply (write_answer greatest card (length lent)), write_over greatest card lent))
   pub list_program : ListProgram greatest (ration_table greatest) (list_card greatest) (dump_text greatest)
-  pub w_201 : W201 greatest (ration_table greatest)
+  pub w_201 : W201 greatest (ration_table greatest) next_rows
   pub w_202 : W202 greatest eight_at (λ dump lent. dump_reply (read_answer greatest dump lent))
   pub w_203 : W203 (ration_table greatest) (find_depth greatest 1) (next_depth greatest 1) (λ c m. told_depth (step_of greatest 1 c m).memory.depth (step_of greatest 1 c m).answer)
-  pub w_204 : W204 (ration_table greatest) (λ m family. total_reply (total_of m family))
+  pub w_204 : W204 (ration_table greatest) (λ m. Unit) (λ m family. total_reply (total_of m family))
   pub w_205 : W205 (ration_table greatest)
   pub w_209 : W209 greatest (ration_table greatest) (check_text greatest)
   pub w_213 : W213 greatest (ration_table greatest) (record_of greatest 1) (λ c key block. fetch_reply (fetch_of greatest 1 c key block))
@@ -67,7 +67,7 @@ promises greatest =
       demand_2 = dictionary-kept greatest;
       demand_3 = book-kept greatest;
       dumps = dumps-kept greatest;
-      list_program = list-kept greatest;
+      list_program = list_kept greatest;
       w_201 = next-kept greatest;
       w_202 = padding-kept greatest;
       w_203 = depth-kept greatest;

@@ -56,7 +56,7 @@ use Rattle.theory_walk.proofs.Depth.{way_depth_lem, passed_levels}
 use Rattle.theory_next.proofs.IsNext.{IsNext}
 use Rattle.theory_next.proofs.Next.{next_right}
 use Rattle.demands.specs.Book.{Book}
-use Rattle.demands.specs.Events.{Event, World, reply_to, happens, run, LeftUncut, ask, insert, delete, step, cut}
+use Rattle.demands.specs.Events.{Event, World, reply_to, happens, run, LeftUncut, ask, insert, delete, step, elsewhere, cut}
 use Rattle.demands.specs.RationTable.{ration_table}
 use Rattle.demands.specs.Refusals.{Idle}
 use Rattle.demands.specs.Table.{Refused as IsRefused}
@@ -79,7 +79,7 @@ step_depth greatest c m = told_depth (step_of greatest 1 c m).memory.depth (step
 
 -- ---- the way on the card and through the tree
 
-passes : (greatest : ℕ) (c : List ℕ) (n : ℕ) (t : Tree) → Table greatest c n t → (key : ℕ) → depth_of (leaf_of (way c n key)) ≡ passed_in key t
+pub passes : (greatest : ℕ) (c : List ℕ) (n : ℕ) (t : Tree) → Table greatest c n t → (key : ℕ) → depth_of (leaf_of (way c n key)) ≡ passed_in key t
 unfolding way depth_of root_position
 passes greatest c n t b key =
     ap depth_of (way_depth_lem c n key b.sized.words depth_limit t b.holds.2 (table_depth_limited greatest b) (root_position (get_or c root_place 0)) b.holds.0).1
@@ -112,7 +112,8 @@ module _ (greatest : ℕ) (w : World (ration_table greatest)) (b : Book) (v : Co
       go NoNext i = refl
       go (NextRefused r) i = absurd i
 
-  rest_tells : Idle (ration_table greatest) w.state → (l : Line w.card b.held) → (number : ℕ) → number < key_limit → Rested (find_depth greatest 1) (next_depth greatest 1) w.card l number
+  rest_tells : Idle (ration_table greatest) w.state → (l : Line w.card b.held) → (number : ℕ) → number < key_limit
+      → Rested (find_depth greatest 1) (next_depth greatest 1) w.card w.card l number
   rest_tells idle l number high =
       let k = l.right.balanced.well_formed in
       let levels = passed_levels number l.depth l.right.table k.widths l.right.balanced.none l.level in
@@ -150,7 +151,7 @@ module _ (greatest : ℕ) (c : List ℕ) (m : Memory) where
   unfolding step_checked step_refused
   checked_depth due e = bool_cases (eqb (header_refusal c m.nodes) 0) (λ q. rw q e) (λ q. rw q)
 
-  format_depth : (made : ℕ) (o : Option Store) → (step_format c m made o).memory.depth ≡ m.depth
+  pub format_depth : (made : ℕ) (o : Option Store) → (step_format c m made o).memory.depth ≡ m.depth
   unfolding step_format step_final idled formatting_from
   format_depth made none = refl
   format_depth made (some s) = refl
@@ -161,7 +162,7 @@ module _ (greatest : ℕ) (c : List ℕ) (m : Memory) where
   held_depth (Formatting made) = format_depth made _
   held_depth (HeldTask task) = checked_depth _ (ap (λ (x : Memory). x.depth) (on_memory 1 c (step_task (seen 1 c) m task m.rest)) ∙ task_depth greatest (seen 1 c) m task m.rest)
 
-  step_keeps : (step_of greatest 1 c m).memory.depth ≡ m.depth
+  pub step_keeps : (step_of greatest 1 c m).memory.depth ≡ m.depth
   unfolding step_refused
   step_keeps = go (sized? greatest (length c) m.nodes)
     where
@@ -173,6 +174,7 @@ run_keeps : (greatest : ℕ) (qs : List Event) (w : World (ration_table greatest
 unfolding LeftUncut run happens
 run_keeps greatest [] w u = refl
 run_keeps greatest (ask q ∷ qs) w u = run_keeps greatest qs w u.1
+run_keeps greatest (elsewhere x ∷ qs) w u = run_keeps greatest qs w u.1
 run_keeps greatest (insert key value ∷ qs) w u =
     run_keeps greatest qs (happens (ration_table greatest) (insert key value) w) u.1 ∙ ap (λ (x : World (ration_table greatest)). x.state.depth) (insert_same greatest key value w u.0)
 run_keeps greatest (delete key ∷ qs) w u =
@@ -183,7 +185,7 @@ run_keeps greatest (cut ∷ qs) w u = absurd u.0
 
 -- ---- the final answer tells it
 
-told_final : (depth : ℕ) (a : Answer) (held : Option ℕ) → SmallAnswer a → step_reply a ≡ dictionary held → told_depth depth a ≡ depth
+pub told_final : (depth : ℕ) (a : Answer) (held : Option ℕ) → SmallAnswer a → step_reply a ≡ dictionary held → told_depth depth a ≡ depth
 unfolding step_reply told_depth dictionary
 told_final depth (Stored place) none s e = absurd (omega (arith, code_of e))
 told_final depth (Stored place) (some v) s e = absurd (omega (arith, code_of e))
@@ -195,7 +197,7 @@ told_final depth (Refused r) none s e = absurd (omega (arith, s, code_of e))
 told_final depth (Refused r) (some v) s e = absurd (omega (arith, s, code_of e))
 
 -- and no other answer does
-told_others : (depth : ℕ) (a : Answer) → ((held : Option ℕ) → step_reply a ≡ dictionary held → ⊥) → told_depth depth a ≡ 0
+pub told_others : (depth : ℕ) (a : Answer) → ((held : Option ℕ) → step_reply a ≡ dictionary held → ⊥) → told_depth depth a ≡ 0
 unfolding step_reply told_depth dictionary
 told_others depth (Stored place) n = refl
 told_others depth Ready n = refl
@@ -234,12 +236,12 @@ unfolding found_reply found_in
 found_not node (At i) h = omega arith
 found_not node NoSlot h = omega arith
 
-refused_depth : (c : List ℕ) (key : ℕ) (x : Reached) → IsRefused (found_reply (found_at c key x)) → depth_of x ≡ 0
+pub refused_depth : (c : List ℕ) (key : ℕ) (x : Reached) → IsRefused (found_reply (found_at c key x)) → depth_of x ≡ 0
 unfolding found_at depth_of
 refused_depth c key NotReached h = refl
 refused_depth c key (ReachedLeaf m depth) h = absurd (found_not (node_at c m) (slot_of (node_at c m) key) h)
 
-carried_none : (depth : ℕ) (s : Successor) → IsRefused (next_reply s) → carried depth s ≡ 0
+pub carried_none : (depth : ℕ) (s : Successor) → IsRefused (next_reply s) → carried depth s ≡ 0
 unfolding carried next_reply
 carried_none depth (Pair key value) h = absurd (omega arith)
 carried_none depth NoNext h = absurd (omega arith)
@@ -277,6 +279,6 @@ w_203 greatest =
       next_refused = next_refused greatest;
       others = λ c m n. told_others (step_of greatest 1 c m).memory.depth (step_of greatest 1 c m).answer n;
       rests = always greatest (λ w b. Idle (ration_table greatest) w.state → (l : Line w.card b.held) → (number : ℕ)
-          → number < key_limit → Rested (find_depth greatest 1) (next_depth greatest 1) w.card l number)
+          → number < key_limit → Rested (find_depth greatest 1) (next_depth greatest 1) w.card w.card l number)
           (rest_tells greatest);
     }

@@ -29,7 +29,7 @@ use Rattle.theory_tree.specs.Tree.{Tree}
 use Rattle.theory_tree.specs.WellFormed.{Balanced}
 use Rattle.call_change.specs.Updates.{start_room}
 
-tree_levels : (c : List ℕ) (t : Tree) → Balanced c t → (h : ℕ) → Height h t → Levels t h (length (pairs t))
+pub tree_levels : (c : List ℕ) (t : Tree) → Balanced c t → (h : ℕ) → Height h t → Levels t h (length (pairs t))
 tree_levels c t b h level =
     let ok = b.well_formed.widths in
     record {

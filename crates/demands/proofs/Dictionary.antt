@@ -26,7 +26,8 @@ use Rattle.demands.specs.Way.{leads_to}
 use Rattle.demands.specs.Refusals.{Rows, ByRows, Idle as Resting, NoRoom, card_rows, row, end}
 use Rattle.demands.specs.Rules.{InsertRule, DeleteRule}
 use Rattle.demands.proofs.CardRows.{none_some}
-use Rattle.demands.proofs.PowerCuts.{dictionary_same, Covered, always, rests_right}
+use Rattle.demands.proofs.Mending.{updates_alone}
+use Rattle.demands.proofs.PowerCuts.{dictionary_same, Covered, alone_unreached, always, rests_right}
 use Rattle.demands.proofs.FirstSteps.{demand_1}
 use Rattle.demands.proofs.AnswerNumbers.{start_small}
 use Rattle.demands.proofs.ReplyLaws.{begun_started}
@@ -68,7 +69,7 @@ past_card greatest rows refuses works c n s f (inr (_, inl p)) = absurd (p.0 f.m
 past_card greatest rows refuses works c n s f (inr (_, inr (_, inl p))) = absurd (p.0 f)
 past_card greatest rows refuses works c n s f (inr (_, inr (_, inr (_, q)))) = q
 
-answer_refused : (a : Answer) (r : ℕ) → r < 64 → step_reply a ≡ refusal r → a ≡ Refused r
+pub answer_refused : (a : Answer) (r : ℕ) → r < 64 → step_reply a ≡ refusal r → a ≡ Refused r
 unfolding step_reply
 answer_refused (Stored place) r h e = absurd (omega (arith, h, ap (λ (x : Reply). x.code) e))
 answer_refused Ready r h e = absurd (omega (arith, h, ap (λ (x : Reply). x.code) e))
@@ -115,7 +116,8 @@ module _ (greatest : ℕ) (w : World (ration_table greatest)) (b : Book) (v : Co
       record {
         begins = s.reply_given;
         by_rules = subst (λ (r : Reply). Updates (ration_table greatest) ((a : ℕ) × (lookup key b.held ≡ some a)) (InsertRule w.card key value) r
-            (happens (ration_table greatest) (insert key value) w)) (dictionary_same (lookup key b.held)) (insert_by_rules greatest w b v key value high e);
+            (happens (ration_table greatest) (insert key value) w)) (dictionary_same (lookup key b.held))
+            (updates_alone greatest n (insert_by_rules greatest (only n) v.steps w b i key value high e));
         finishes = finishes_by greatest (lookup key b.held) _ (happens (ration_table greatest) (insert key value) w) (insert_stores greatest i key high value e);
       }
 
@@ -128,26 +130,27 @@ module _ (greatest : ℕ) (w : World (ration_table greatest)) (b : Book) (v : Co
       record {
         begins = s.reply_given;
         by_rules = subst (λ (r : Reply). Updates (ration_table greatest) (lookup key b.held ≡ none) (DeleteRule w.card key) r
-            (happens (ration_table greatest) (delete key) w)) (dictionary_same (lookup key b.held)) (delete_by_rules greatest w b v key high e);
+            (happens (ration_table greatest) (delete key) w)) (dictionary_same (lookup key b.held))
+            (updates_alone greatest n (delete_by_rules greatest (only n) v.steps w b i key high e));
         finishes = finishes_by greatest (lookup key b.held) _ (happens (ration_table greatest) (delete key) w) (delete_stores greatest i key high e);
       }
 
-  inserts_right : (key value : ℕ) → key < key_limit → ByRows (row 7 (Resting (ration_table greatest) w.state → ⊥) (row 6 (key ≡ 0) (row 8 (NoRoom w.card w.state.free key) end)))
+  inserts_right : (key value : ℕ) → key < key_limit → ByRows (row 7 (Resting (ration_table greatest) w.state → ⊥) (row 6 (key ≡ 0) (row 8 (NoRoom w.card (room_of w.state) key) end)))
       (λ r. reply_to (ration_table greatest) (insert key value) w ≡ refusal r) (Works (ration_table greatest) greatest (insert key value)
       ((a : ℕ) × (lookup key b.held ≡ some a)) (InsertRule w.card key value) key w b.held)
   unfolding ByRows reply_to
   inserts_right key value high =
       go (past_card greatest (row 7 (Resting (ration_table greatest) w.state → ⊥)
-      (row 6 (key ≡ 0) (row 9 (leads_to w.card key ≡ none) (row 8 (NoRoom w.card w.state.free key) end))))
+      (row 6 (key ≡ 0) (row 9 (leads_to w.card key ≡ none) (row 8 (NoRoom w.card (room_of w.state) key) end))))
       (HandsBack (ration_table greatest) w.state ((ration_table greatest).insert w.card w.state key value))
       (Starts (ration_table greatest) w.state ((ration_table greatest).insert w.card w.state key value) (inserting key value false)) w.card
       w.state.nodes sized header ((demand_1 greatest).inserts w.card w.state key value))
     where
       go : ByRows (row 7 (Resting (ration_table greatest) w.state → ⊥)
-          (row 6 (key ≡ 0) (row 9 (leads_to w.card key ≡ none) (row 8 (NoRoom w.card w.state.free key) end))))
+          (row 6 (key ≡ 0) (row 9 (leads_to w.card key ≡ none) (row 8 (NoRoom w.card (room_of w.state) key) end))))
           (HandsBack (ration_table greatest) w.state ((ration_table greatest).insert w.card w.state key value))
           (Starts (ration_table greatest) w.state ((ration_table greatest).insert w.card w.state key value) (inserting key value false))
-          → ByRows (row 7 (Resting (ration_table greatest) w.state → ⊥) (row 6 (key ≡ 0) (row 8 (NoRoom w.card w.state.free key) end)))
+          → ByRows (row 7 (Resting (ration_table greatest) w.state → ⊥) (row 6 (key ≡ 0) (row 8 (NoRoom w.card (room_of w.state) key) end)))
           (λ r. reply_to (ration_table greatest) (insert key value) w ≡ refusal r)
           (Works (ration_table greatest) greatest (insert key value) ((a : ℕ) × (lookup key b.held ≡ some a)) (InsertRule w.card key value) key w b.held)
       go (inl (p, h)) = inl (p, h.number_given)
@@ -194,7 +197,7 @@ module _ (greatest : ℕ) (w : World (ration_table greatest)) (b : Book) (v : Co
   rests_are : Resting (ration_table greatest) w.state → Rests (ration_table greatest) greatest w b.held
   rests_are q =
       let r = rests_now (is_idle_lem w.state.doing (work_idle w.state.doing q)) in
-      record { right = rests_right greatest r; levels = r.levels; free_exact = r.free_exact; three_kept = r.three_kept }
+      record { right = rests_right greatest r; levels = r.levels; free_exact = alone_unreached r.free_exact; room_right = r.room_right; three_kept = r.three_kept }
 
   pub is_dictionary : Dictionary (ration_table greatest) greatest w b
   is_dictionary = record { finds = finds_right; inserts = inserts_right; deletes = deletes_right; repairs = opening_by_rules greatest w b v; steps = steps_right; rests = rests_are }

@@ -31,12 +31,13 @@ use Rattle.theory_tree.specs.Pairs.{pairs}
 use Rattle.theory_tree.specs.Tree.{Tree}
 use Rattle.theory_tree.specs.WellFormed.{WellFormed}
 use Rattle.demands.specs.Book.{Book}
-use Rattle.demands.specs.Events.{Event, World, happens, run, LeftUncut, format_begun, ask, insert, delete, step, cut}
-use Rattle.demands.specs.RationTable.{ration_table}
+use Rattle.demands.specs.Events.{Event, World, happens, run, LeftUncut, format_begun, ask, insert, delete, step, elsewhere, cut}
+use Rattle.demands.specs.RationTable.{format_alone, ration_table}
+use Rattle.call_start.specs.CardStarts.{Form, one_line, two_lines}
 use Rattle.demands.specs.Table.{Refused}
 use Rattle.demands.specs.W204.{TellsAll, W204}
 use Rattle.demands.proofs.PowerCuts.{Covered, always}
-use Rattle.demands.proofs.PowerLoss.{ask_same, insert_same, delete_same}
+use Rattle.demands.proofs.PowerLoss.{ask_same, elsewhere_same, insert_same, delete_same}
 
 told : (m : Memory) (l : List (ℕ × ℕ)) → Totals m.totals l → (family : ℕ) → family < family_count → total_reply (total_of m family) ≡ totalled (total (of_family family) l)
 unfolding total_of total_reply
@@ -66,12 +67,12 @@ module _ (greatest : ℕ) (c : List ℕ) (m : Memory) (u : Uncounted m) where
   unfolding idled
   final_uncounted = record { zeros = u.zeros; formats = inl refl }
 
-  format_uncounted : (made : ℕ) (o : Option Store) → Uncounted (step_format c m made o).memory
+  pub format_uncounted : (made : ℕ) (o : Option Store) → Uncounted (step_format c m made o).memory
   unfolding step_format step_final formatting_from
   format_uncounted made none = final_uncounted
   format_uncounted made (some s) = record { zeros = u.zeros; formats = inr (suc made, refl) }
 
-  step_uncounted : Uncounted (step_of greatest 1 c m).memory
+  pub step_uncounted : Uncounted (step_of greatest 1 c m).memory
   unfolding step_of step_refused step_held step_checked held_by
   step_uncounted =
       bool_cases (eqb (nodes_of_length greatest (length c)) 0) (λ q. rw q u)
@@ -94,6 +95,10 @@ run_uncounted greatest (ask q ∷ qs) w l u =
     let e = ask_same greatest q w in
     subst (λ (x : World (ration_table greatest)). Uncounted (run (ration_table greatest) qs x).state) (sym e)
     (run_uncounted greatest qs w (subst (LeftUncut (ration_table greatest) qs) e l.1) u)
+run_uncounted greatest (elsewhere x ∷ qs) w l u =
+    let e = elsewhere_same greatest x w in
+    subst (λ (x : World (ration_table greatest)). Uncounted (run (ration_table greatest) qs x).state) (sym e)
+    (run_uncounted greatest qs w (subst (LeftUncut (ration_table greatest) qs) e l.1) u)
 run_uncounted greatest (insert key value ∷ qs) w l u =
     let e = insert_same greatest key value w l.0 in
     subst (λ (x : World (ration_table greatest)). Uncounted (run (ration_table greatest) qs x).state) (sym e)
@@ -105,15 +110,20 @@ run_uncounted greatest (delete key ∷ qs) w l u =
 run_uncounted greatest (step ∷ qs) w l u = run_uncounted greatest qs (happens (ration_table greatest) step w) l.1 (stepped_uncounted greatest w u)
 run_uncounted greatest (cut ∷ qs) w l u = absurd l.0
 
-begun_uncounted : (greatest : ℕ) (c : List ℕ) → Uncounted (format_of greatest c).memory
+pub begun_uncounted : (greatest : ℕ) (c : List ℕ) → Uncounted (format_of greatest c).memory
 unfolding format_of no_beginning no_memory resting
 begun_uncounted greatest c =
     bool_cases (eqb (nodes_of_length greatest (length c)) 0) (λ q. rw q (record { zeros = refl; formats = inl refl }))
     (λ q. rw q (record { zeros = refl; formats = inr (0, refl) }))
 
+form_uncounted : (greatest : ℕ) (f : Form) (c : List ℕ) → Uncounted (format_alone greatest f c).state
+unfolding no_beginning no_memory
+form_uncounted greatest one_line c = begun_uncounted greatest c
+form_uncounted greatest (two_lines first second) c = record { zeros = refl; formats = inl refl }
+
 -- ---- for N = 0
 
-none_opened : (greatest : ℕ) (c : List ℕ) → Refused (start_reply (open_of greatest c).begun) → (open_of greatest c).memory.totals ≡ no_totals
+pub none_opened : (greatest : ℕ) (c : List ℕ) → Refused (start_reply (open_of greatest c).begun) → (open_of greatest c).memory.totals ≡ no_totals
 unfolding start_reply no_memory
 none_opened greatest c = at (open_of greatest c).begun refl
   where
@@ -122,16 +132,17 @@ none_opened greatest c = at (open_of greatest c).begun refl
     at Started e r = absurd (omega arith)
     at (BegunRefused number) e r = ap (λ (m : Memory). m.totals) (refused_none greatest c number e)
 
-pub w_204 : (greatest : ℕ) → W204 (ration_table greatest) (λ m family. total_reply (total_of m family))
+pub w_204 : (greatest : ℕ) → W204 (ration_table greatest) (λ m. Unit) (λ m family. total_reply (total_of m family))
 unfolding total_of total_reply
 w_204 greatest =
     record {
-      moments = always greatest (λ w b. (t : Tree) → WellFormed w.card t → TellsAll (ration_table greatest) (λ m family. total_reply (total_of m family)) w.state (pairs t)) (by_tree greatest);
-      booked = always greatest (λ w b. TellsAll (ration_table greatest) (λ m family. total_reply (total_of m family)) w.state b.held) (by_book greatest);
-      formatting = λ c e qs u. let x = run_uncounted greatest qs (format_begun (ration_table greatest) c) u (begun_uncounted greatest c) in
-          none_told (run (ration_table greatest) qs (format_begun (ration_table greatest) c)).state x.zeros;
-      not_opened = λ c r. none_told (open_of greatest c).memory (none_opened greatest c r);
-      not_formatted = λ c r. none_told (format_of greatest c).memory (begun_uncounted greatest c).zeros;
-      above = λ m family h. rw (le-ltb family family_count h);
-      answers = λ m family h. (get_or m.totals family 0, rw (lt-ltb family family_count h));
+      moments = always greatest (λ w b. (t : Tree) → WellFormed w.card t
+          → TellsAll (ration_table greatest) (λ m. Unit) (λ m family. total_reply (total_of m family)) w.state (pairs t)) (by_tree greatest);
+      booked = always greatest (λ w b. TellsAll (ration_table greatest) (λ m. Unit) (λ m family. total_reply (total_of m family)) w.state b.held) (by_book greatest);
+      formatting = λ f c e qs u k. let x = run_uncounted greatest qs (format_begun (ration_table greatest) f c) u (form_uncounted greatest f c) in
+          none_told (run (ration_table greatest) qs (format_begun (ration_table greatest) f c)).state x.zeros;
+      not_opened = λ c r k. none_told (open_of greatest c).memory (none_opened greatest c r);
+      not_formatted = λ f c r k. none_told (format_alone greatest f c).state (form_uncounted greatest f c).zeros;
+      above = λ m k family h. rw (le-ltb family family_count h);
+      answers = λ m k family h. (get_or m.totals family 0, rw (lt-ltb family family_count h));
     }

@@ -6,29 +6,32 @@ use mathlib.Core.Bool.{Bool, false}
 use mathlib.Core.Logic.{◌⊎◌, inl, inr}
 use Prim.Native.Nat.{ℕ, zero, suc, ◌+◌, ◌≤◌, ◌<◌}
 use native.Mathlib.Omega.{arith}
-use Rattle.theory_change.proofs.Line.{Line, Partition, only, size, exact_only, count_only}
+use Rattle.theory_change.proofs.Line.{Line, Partition, only, size, exact_only, room_exact}
 use Rattle.card.specs.Replies.{Reply, stored}
 use Rattle.state.specs.Answers.{step_reply}
+use Rattle.state.specs.Memory.{Memory}
 use Rattle.state.specs.Steps.{is_idle}
 use Rattle.call_step.specs.Calls.{step_of}
 use Rattle.state.specs.declared.Doing.TheVariants.{Idle}
 use Rattle.state.specs.declared.Answer.{Answer}
 use Rattle.state.specs.declared.Answer.TheVariants.{Stored, Refused}
 use Rattle.demands.proofs.BookLaws.{IsFinal}
-use Rattle.demands.proofs.Finishing.{Rests}
+use Rattle.demands.proofs.Finishing.{Rests, RestsBeside}
 use Rattle.demands.proofs.Invariant.{Inv}
 use Rattle.demands.specs.Book.{Book}
-use Rattle.demands.specs.Events.{Event, World, reply_to, happens, run, LeftUncut, steps_in, ask, insert, delete, step, cut}
+use Rattle.demands.specs.Events.{Event, World, reply_to, happens, run, LeftUncut, steps_in, ask, insert, delete, step, elsewhere, cut}
 use Rattle.demands.specs.RationTable.{ration_table}
-use Rattle.demands.proofs.PowerLoss.{loosen, at_rest, after_step, ask_same, insert_same, delete_same, idle_not_busy, map_is}
+use Rattle.demands.proofs.PowerLoss.{loosen, at_rest, after_step, ask_same, elsewhere_same, insert_same, delete_same, idle_not_busy, map_is}
 use Rattle.demands.proofs.Reopen.{table_well_formed}
 use Rattle.demands.proofs.Starting.{idle_or_busy}
 use Rattle.demands.proofs.Stepping.{Right, right_final, Moves, kept_step, was_idle, ends_now, goes_further}
 use Rattle.demands.proofs.Steps.{memory}
+use Rattle.demands.proofs.WayDown.{sized_on}
 use Rattle.card.specs.Layout.{limited}
 use Rattle.card.proofs.HeaderLaws.{limited_most, within_limited}
 use Rattle.theory_check.proofs.Depth.{balanced_levels, nodes_within}
 use Rattle.theory_shapes.proofs.Bare.{bare}
+use Rattle.theory_tree.specs.FreeNodes.{Exact}
 use Rattle.theory_tree.specs.Violations.{table_violations}
 use Rattle.laws.proofs.Cases.{impossible}
 
@@ -63,6 +66,7 @@ module _ (greatest : ℕ) {final : Reply} where
   each_stores (answers_now a) [] u h = absurd (omega arith)
   each_stores (stores_first s c) [] u h = s
   each_stores {w = w} c (ask question ∷ qs) u h = let e = ask_same greatest question w in rw e (each_stores c qs (rw e at u.1) h)
+  each_stores {w = w} c (elsewhere x ∷ qs) u h = let e = elsewhere_same greatest x w in rw e (each_stores c qs (rw e at u.1) h)
   each_stores {w = w} c (insert key value ∷ qs) u h = let e = insert_same greatest key value w u.0 in rw e (each_stores c qs (rw e at u.1) h)
   each_stores {w = w} c (delete key ∷ qs) u h = let e = delete_same greatest key w u.0 in rw e (each_stores c qs (rw e at u.1) h)
   each_stores (answers_now a) (step ∷ qs) u h = absurd (omega arith)
@@ -75,6 +79,7 @@ module _ (greatest : ℕ) {final : Reply} where
   then_answers (answers_now a) [] u h = a
   then_answers (stores_first s c) [] u h = absurd (omega arith)
   then_answers {w = w} c (ask question ∷ qs) u h = let e = ask_same greatest question w in rw e (then_answers c qs (rw e at u.1) h)
+  then_answers {w = w} c (elsewhere x ∷ qs) u h = let e = elsewhere_same greatest x w in rw e (then_answers c qs (rw e at u.1) h)
   then_answers {w = w} c (insert key value ∷ qs) u h = let e = insert_same greatest key value w u.0 in rw e (then_answers c qs (rw e at u.1) h)
   then_answers {w = w} c (delete key ∷ qs) u h = let e = delete_same greatest key w u.0 in rw e (then_answers c qs (rw e at u.1) h)
   then_answers (answers_now a) (step ∷ qs) u h = absurd (omega arith)
@@ -91,14 +96,21 @@ work_not_refused greatest line steps w b i busy r e = at (kept_step greatest lin
     at (goes_further s f) = let z : ◌≡◌ {A = Answer} (Refused r) (Stored s.place) = sym e ∙ s.told in impossible (cc)
 
 -- an idle state's table
-pub inv_rests : (greatest : ℕ) (n steps : ℕ) (w : World (ration_table greatest)) (b : Book) → Inv greatest (only n) steps w b → w.state.doing ≡ Idle → Rests greatest w b.held
-inv_rests greatest n steps w b i idle = go (idle_or_busy i.stage)
+pub inv_rests_beside : (greatest : ℕ) (line : Line) (steps : ℕ) (w : World (ration_table greatest)) (b : Book) → Inv greatest line steps w b → w.state.doing ≡ Idle
+    → RestsBeside greatest line w b.held
+inv_rests_beside greatest line steps w b i idle = go (idle_or_busy i.stage)
   where
+    n : ℕ
+    n = line.nodes
+
     go : (w.state.nodes ≡ n)
-        × ((is_idle w.state.doing ≡ false) ⊎ ((free : List Bool) × (last : ℕ) × (w.state ≡ memory n free last w.state.depth w.state.totals Idle [] [])
-        × (table_violations i.tree ≡ 0) × (size i.tree + 3 ≤ n) × Partition (only n) free i.tree × (bare i.tree ≡ i.goal))) → Rests greatest w b.held
+        × ((is_idle w.state.doing ≡ false) ⊎ ((free : List Bool) × (last : ℕ) × (w.state ≡ memory n free last w.state.depth w.state.totals w.state.back Idle [] [])
+        × (table_violations i.tree ≡ 0) × (size i.tree + 3 ≤ line.limit) × Partition line free i.tree × (bare i.tree ≡ i.goal))) → RestsBeside greatest line w b.held
     go (e, inl busy) = absurd (idle_not_busy w.state.doing idle busy)
     go (e, inr (free, last, em, z, r, x, eg)) =
+        let is : w.state.free ≡ free = ap (λ (m : Memory). m.free) em in
+        let parted = subst (λ (f : List Bool). Partition line f i.tree) (sym is) x in
+        let room = room_exact line w.state.free i.tree parted w.state.back i.reserved (omega (arith, i.table.sized.most)) (omega (arith, r)) in
         record {
           table = i.tree;
           balanced = record { well_formed = table_well_formed greatest i.table; none = z };
@@ -108,6 +120,22 @@ inv_rests greatest n steps w b i idle = go (idle_or_busy i.stage)
             nodes_within w.card n i.table.sized.words i.tree i.table.holds.2 i.table.sound.once,
             within_limited greatest n i.table.sized.within i.table.sized.most,
           ));
-          free_exact = rw em (exact_only n free i.tree x);
-          three_kept = rw em (omega (arith, r, count_only n free i.tree x (omega (arith, i.table.sized.most))));
+          nodes_are = e;
+          parted = parted;
+          room_right = room;
+          three_kept = omega (arith, r, room);
         }
+
+-- on a card with one line
+pub inv_rests : (greatest : ℕ) (n steps : ℕ) (w : World (ration_table greatest)) (b : Book) → Inv greatest (only n) steps w b → w.state.doing ≡ Idle → Rests greatest w b.held
+inv_rests greatest n steps w b i idle =
+    let r = inv_rests_beside greatest (only n) steps w b i idle in
+    record {
+      table = r.table;
+      balanced = r.balanced;
+      map = r.map;
+      levels = r.levels;
+      free_exact = subst (λ (k : ℕ). Exact k w.state.free r.table) (sym r.nodes_are) (exact_only n w.state.free r.table r.parted);
+      room_right = r.room_right ∙ sym (sized_on greatest w.card n i.table.sized);
+      three_kept = r.three_kept;
+    }

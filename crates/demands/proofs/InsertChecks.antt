@@ -1,5 +1,5 @@
 -- W-209, of the program `insert_check`.
-use mathlib.Core.Path.{◌≡◌, ap, sym, subst, ◌∙◌}
+use mathlib.Core.Path.{refl, ◌≡◌, ap, sym, subst, ◌∙◌}
 use mathlib.Core.Bool.{true, false}
 use mathlib.Core.List.{List, [], ◌∷◌}
 use mathlib.Core.Logic.{◌⊎◌, inl, inr, ⊎_map, ◌↔◌}
@@ -110,7 +110,7 @@ module _ (greatest : ℕ) (c : List ℕ) where
 
   module _ (t : Tree) (well : WellFormed c t) (opening : Opens (ration_table greatest) c) where
     begins : Begins (ration_table greatest) (opened (ration_table greatest) c) (pairs t)
-    begins = from_open c t opening well
+    begins = from_open c t opening refl well
 
     nodes_after : nodes_on after.card ≡ after.state.nodes
     unfolding repaired_world

@@ -8,7 +8,7 @@ use lib.ListN.{length}
 use Rattle.card.specs.Layout.{lowest_key, key_limit}
 use Rattle.card.specs.Header.{Sized, Formatted}
 use Rattle.card.specs.Stores.{Store}
-use Rattle.theory_change.proofs.Line.{Line, Partition, size, Apart}
+use Rattle.theory_change.proofs.Line.{Line, Partition, size, Apart, Reserved}
 use Rattle.theory_change.proofs.Plays.{Openable, Changing}
 use Rattle.theory_change.proofs.Repaired.{Mendable}
 use Rattle.theory_change.proofs.Rewritten.{Sound}
@@ -73,32 +73,34 @@ pub record UpdateSteps (t : Tree) (steps : ℕ) : Type 0 where
 -- What is being done, by the state and the book's hand, and the final answer due to it.
 pub data Stage (c : List ℕ) (line : Line) (t goal : Tree) (steps : ℕ) : Memory → Hand → Answer → Type 0 where
   -- nothing is being done, and no answer is due: any will do
-  stage_idle : {free : List Bool} {last depth : ℕ} {due : Answer} {totals : List ℕ} → table_violations t ≡ 0 → size t + 3 ≤ line.limit → Partition line free t → bare t ≡ goal
-      → Stage c line t goal steps (record { nodes = line.nodes; free = free; last = last; doing = Idle; rest = []; cut = []; depth = depth; totals = totals }) empty due
+  stage_idle : {free : List Bool} {last depth : ℕ} {due : Answer} {totals : List ℕ} {back : ℕ} → table_violations t ≡ 0 → size t + 3 ≤ line.limit → Partition line free t → bare t ≡ goal
+      → Stage c line t goal steps (record { nodes = line.nodes; free = free; last = last; doing = Idle; rest = []; cut = []; depth = depth; totals = totals; back = back }) empty due
   -- started: nothing is planned yet
-  stage_put : {free : List Bool} {last depth key value : ℕ} {totals : List ℕ} (room : ℕ) → table_violations t ≡ 0 → size t + 3 ≤ line.limit → Partition line free t → lowest_key ≤ key
+  stage_put : {free : List Bool} {last depth key value : ℕ} {totals : List ℕ} {back : ℕ} (room : ℕ) → table_violations t ≡ 0 → size t + 3 ≤ line.limit → Partition line free t → lowest_key ≤ key
       → key < key_limit → start_room c key room (landing c line.nodes key) ≡ true → size t + room ≤ line.limit → UpdateSteps t steps → after_shape (put key value) (bare t) ≡ goal
-      → Stage c line t goal steps (record { nodes = line.nodes; free = free; last = last; doing = Inserting key value NotBegun; rest = []; cut = []; depth = depth; totals = totals })
+      → Stage c line t goal steps (record { nodes = line.nodes; free = free; last = last; doing = Inserting key value NotBegun; rest = []; cut = []; depth = depth; totals = totals; back = back })
       (taken_up (told_of (put key value) c goes_on)) (dictionary_answer (lookup key (pairs t)))
-  stage_remove : {free : List Bool} {last depth key : ℕ} {totals : List ℕ} → table_violations t ≡ 0 → size t + 3 ≤ line.limit → Partition line free t
+  stage_remove : {free : List Bool} {last depth key : ℕ} {totals : List ℕ} {back : ℕ} → table_violations t ≡ 0 → size t + 3 ≤ line.limit → Partition line free t
       → lowest_key ≤ key → key < key_limit → UpdateSteps t steps → after_shape (remove key) (bare t) ≡ goal
-      → Stage c line t goal steps (record { nodes = line.nodes; free = free; last = last; doing = Deleting key NotBegun 0; rest = []; cut = []; depth = depth; totals = totals })
+      → Stage c line t goal steps (record { nodes = line.nodes; free = free; last = last; doing = Deleting key NotBegun 0; rest = []; cut = []; depth = depth; totals = totals; back = back })
       (taken_up (told_of (remove key) c goes_on)) (dictionary_answer (lookup key (pairs t)))
   -- the first change of an update, whose last store enters it
   stage_first : {free : List Bool} {last depth key : ℕ} {doing : Doing} {due : Answer} {u : Update}
-      {deciding count : ℕ} {cut : List ℕ} {s : Store} {rest : List Store} {totals : List ℕ} → Job InHand doing key due (some u)
+      {deciding count : ℕ} {cut : List ℕ} {s : Store} {rest : List Store} {totals : List ℕ} {back : ℕ} → Job InHand doing key due (some u)
       → (p : Changing c line key t (s ∷ rest) free cut) → Changes u (pairs t) (pairs p.next)
       → count + suc (length rest) ≡ deciding → suc (length rest) + (73 * p.level + 1) ≤ steps → Heads p.level (bare p.next) goal
-      → Stage c line t goal steps (record { nodes = line.nodes; free = free; last = last; doing = doing; rest = s ∷ rest; cut = cut; depth = depth; totals = totals }) (holding u deciding count) due
+      → Stage c line t goal steps
+      (record { nodes = line.nodes; free = free; last = last; doing = doing; rest = s ∷ rest; cut = cut; depth = depth; totals = totals; back = back })
+      (holding u deciding count) due
   -- between two changes of a repair
-  stage_between : {free : List Bool} {last depth key : ℕ} {doing : Doing} {due : Answer} {u : Option Update} {h : Hand} {totals : List ℕ} → Job Decided doing key
+  stage_between : {free : List Bool} {last depth key : ℕ} {doing : Doing} {due : Answer} {u : Option Update} {h : Hand} {totals : List ℕ} {back : ℕ} → Job Decided doing key
       due u → Entered u h → (deep : ℕ) → Mendable key line.limit t deep → Partition line free t → 73 * deep + 1 ≤ steps → Heads deep (bare t) goal
-      → Stage c line t goal steps (record { nodes = line.nodes; free = free; last = last; doing = doing; rest = []; cut = []; depth = depth; totals = totals }) h due
+      → Stage c line t goal steps (record { nodes = line.nodes; free = free; last = last; doing = doing; rest = []; cut = []; depth = depth; totals = totals; back = back }) h due
   -- within a change of a repair, which keeps the pairs
   stage_within : {free : List Bool} {last depth key : ℕ} {doing : Doing} {due : Answer} {u : Option Update} {h : Hand} {cut : List ℕ} {s : Store}
-      {rest : List Store} {totals : List ℕ} → Job Decided doing key due u → Entered u h → (p : Changing c line key t (s ∷ rest) free cut)
+      {rest : List Store} {totals : List ℕ} {back : ℕ} → Job Decided doing key due u → Entered u h → (p : Changing c line key t (s ∷ rest) free cut)
       → Same (pairs p.next) (pairs t) → suc (length rest) + (73 * p.level + 1) ≤ steps → Heads p.level (bare p.next) goal
-      → Stage c line t goal steps (record { nodes = line.nodes; free = free; last = last; doing = doing; rest = s ∷ rest; cut = cut; depth = depth; totals = totals }) h due
+      → Stage c line t goal steps (record { nodes = line.nodes; free = free; last = last; doing = doing; rest = s ∷ rest; cut = cut; depth = depth; totals = totals; back = back }) h due
 
 pub record Inv (greatest : ℕ) (line : Line) (steps : ℕ) (w : World (ration_table greatest)) (b : Book) : Type 0 where
   pub tree : Tree
@@ -107,8 +109,9 @@ pub record Inv (greatest : ℕ) (line : Line) (steps : ℕ) (w : World (ration_t
   pub same : Same (pairs tree) b.held
   -- document 02, W-204: the totals are those of the tree on the card
   pub counted : Totals w.state.totals (pairs tree)
-  -- document 02, W-207: no node is in both trees of a card
+  -- document 02, W-207: no node is in both trees of a card, and the state knows the free nodes that the line may not use
   pub apart : Apart line tree
+  pub reserved : Reserved line w.state.back
   -- what the work in hand comes to, without numbers
   pub goal : Tree
   -- the final answer that it gives

@@ -11,7 +11,7 @@ use lib.Seq.{get_or-set_other}
 use borrow.Author.Tests.{ne_eqb, eq-eqb}
 use Rattle.card.specs.Header.{Formatted}
 use Rattle.card.specs.Stores.{Store}
-use Rattle.theory_change.proofs.Line.{Line, Own, Apart, partition_apart}
+use Rattle.theory_change.proofs.Line.{Line, Own, Apart, Reserved, partition_apart}
 use Rattle.theory_change.proofs.Plays.{Openable, Storable, Plays, Changing, last_store, store_then}
 use Rattle.theory_change.proofs.Rewritten.{Sound}
 use Rattle.demands.proofs.Invariant.{Toward, Table, Job, Entered, updated, stage_first, stage_between, stage_within}
@@ -79,17 +79,17 @@ one_store greatest {c} {line} {key} {t} {free = free} {cut = cut} b p = at p.pla
 
 -- a store of a repair's change
 pub repair_stored : (greatest : ℕ) {c : List ℕ} {line : Line} {key : ℕ} {t : Tree} {s : Store} {rest : List Store} {free : List Bool} {cut : List ℕ} {doing : Doing}
-    {due : Answer} {u : Option Update} {h : Hand} {goal : Tree} (last depth steps : ℕ) (totals : List ℕ) (z : List Store) (l : List (ℕ × ℕ)) → Table greatest c line.nodes t
-    → Same (pairs t) l → Totals totals (pairs t) → Apart line t
+    {due : Answer} {u : Option Update} {h : Hand} {goal : Tree} (last depth steps : ℕ) (totals : List ℕ) (back : ℕ) (z : List Store) (l : List (ℕ × ℕ)) → Table greatest c line.nodes t
+    → Same (pairs t) l → Totals totals (pairs t) → Apart line t → Reserved line back
     → Job Decided doing key due u → Entered u h → (p : Changing c line key t (s ∷ rest) free cut) → Same (pairs p.next) (pairs t)
     → length rest + (73 * p.level + 1) ≤ steps → Heads p.level (bare p.next) goal
-    → Toward greatest goal due line steps (record { card = set c s.0 s.1; state = advanced (memory line.nodes free last depth totals doing z cut) rest }) (book l h)
+    → Toward greatest goal due line steps (record { card = set c s.0 s.1; state = advanced (memory line.nodes free last depth totals back doing z cut) rest }) (book l h)
 unfolding advanced
-repair_stored greatest {c} {line} {key} {t} {s} {rest} {free} {cut} {doing} {due} {h = h} {goal = goal} last depth steps totals z l b same counted apart j en p e few hd = at rest
+repair_stored greatest {c} {line} {key} {t} {s} {rest} {free} {cut} {doing} {due} {h = h} {goal = goal} last depth steps totals back z l b same counted apart reserved j en p e few hd = at rest
     (one_store greatest b p) few
   where
     at : (rest : List Store) → Left greatest line key c t free cut p.next p.level s rest → length rest + (73 * p.level + 1) ≤ steps
-        → Toward greatest goal due line steps (record { card = set c s.0 s.1; state = advanced (memory line.nodes free last depth totals doing z cut) rest }) (book l h)
+        → Toward greatest goal due line steps (record { card = set c s.0 s.1; state = advanced (memory line.nodes free last depth totals back doing z cut) rest }) (book l h)
     at rest (all_made b') few = (
       record {
         tree = p.next;
@@ -99,6 +99,7 @@ repair_stored greatest {c} {line} {key} {t} {s} {rest} {free} {cut} {doing} {due
         openable = record { key = key; deep = p.level; ready = p.ready };
         same = same_over e same;
         apart = partition_apart p.exact;
+        reserved = reserved;
         counted = rw (decided_totals j totals) (totals_same totals (pairs t) (pairs p.next) (λ w. sym (e.totals w)) counted);
         stage = stage_between (job_settled j) en p.level p.ready p.exact (omega arith) hd;
       },
@@ -114,6 +115,7 @@ repair_stored greatest {c} {line} {key} {t} {s} {rest} {free} {cut} {doing} {due
         openable = o;
         same = same_over e₁ same;
         apart = λ i. omega (arith, nodes i, apart i);
+        reserved = reserved;
         counted = totals_same totals (pairs t) (pairs v) (λ w. sym (e₁.totals w)) counted;
         stage = stage_within j en q (same_over (rw en₁ e) (same_back e₁)) (rw el few) (rw (en₁, el) hd);
       },
@@ -123,19 +125,19 @@ repair_stored greatest {c} {line} {key} {t} {s} {rest} {free} {cut} {doing} {due
 
 -- a store of an update's first change: the last one enters it
 pub update_stored : (greatest : ℕ) {c : List ℕ} {line : Line} {key : ℕ} {t : Tree} {s : Store} {rest : List Store} {free : List Bool} {cut : List ℕ} {doing : Doing}
-    {due : Answer} {u : Update} {goal : Tree} (deciding k last depth steps : ℕ) (totals : List ℕ) (z : List Store) (l : List (ℕ × ℕ))
-    → Table greatest c line.nodes t → Same (pairs t) l → Totals totals (pairs t) → Apart line t
+    {due : Answer} {u : Update} {goal : Tree} (deciding k last depth steps : ℕ) (totals : List ℕ) (back : ℕ) (z : List Store) (l : List (ℕ × ℕ))
+    → Table greatest c line.nodes t → Same (pairs t) l → Totals totals (pairs t) → Apart line t → Reserved line back
     → Job InHand doing key due (some u) → (p : Changing c line key t (s ∷ rest) free cut) → Changes u (pairs t) (pairs p.next)
     → k + suc (length rest) ≡ deciding → length rest + (73 * p.level + 1) ≤ steps → Heads p.level (bare p.next) goal
-    → Toward greatest goal due line steps (record { card = set c s.0 s.1; state = advanced (memory line.nodes free last depth totals doing z cut) rest })
+    → Toward greatest goal due line steps (record { card = set c s.0 s.1; state = advanced (memory line.nodes free last depth totals back doing z cut) rest })
     (fed_step goes_on l (holding u deciding k))
 unfolding advanced fed_step
 update_stored greatest {c} {line} {key} {t} {s} {rest} {free} {cut} {doing} {due} {u} {goal}
-    deciding k last depth steps totals z l b same counted apart j p e count few hd =
+    deciding k last depth steps totals back z l b same counted apart reserved j p e count few hd =
     at rest (one_store greatest b p) count few
   where
     at : (rest : List Store) → Left greatest line key c t free cut p.next p.level s rest → k + suc (length rest) ≡ deciding → length rest + (73 * p.level + 1) ≤ steps
-        → Toward greatest goal due line steps (record { card = set c s.0 s.1; state = advanced (memory line.nodes free last depth totals doing z cut) rest })
+        → Toward greatest goal due line steps (record { card = set c s.0 s.1; state = advanced (memory line.nodes free last depth totals back doing z cut) rest })
         (fed_step goes_on l (holding u deciding k))
     at rest (all_made b') count few =
         rw (eq-eqb (suc k) deciding (omega arith)) (
@@ -147,6 +149,7 @@ update_stored greatest {c} {line} {key} {t} {s} {rest} {free} {cut} {doing} {due
             openable = record { key = key; deep = p.level; ready = p.ready };
             same = e.enters.to l same;
             apart = partition_apart p.exact;
+            reserved = reserved;
             counted = changed_totals j totals (pairs t) (pairs p.next) (few_pairs_lem greatest b) (few_pairs_lem greatest b') e counted;
             stage = stage_between (job_settled j) (updated {deciding = deciding} {count = suc k} (omega arith)) p.level p.ready p.exact (omega arith) hd;
           },
@@ -164,6 +167,7 @@ update_stored greatest {c} {line} {key} {t} {s} {rest} {free} {cut} {doing} {due
             openable = o;
             same = same_over e₁ same;
             apart = λ i. omega (arith, nodes i, apart i);
+            reserved = reserved;
             counted = totals_same totals (pairs t) (pairs v) (λ w. sym (e₁.totals w)) counted;
             stage = stage_first {count = suc k} j q (changes_from (same_back e₁) (rw en e)) q' (rw el few) (rw (en, el) hd);
           },

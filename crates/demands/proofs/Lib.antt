@@ -86,6 +86,8 @@ pub mod PlannedRepairs
 pub mod PlannedUpdates
 -- the stores of a change are made one a step
 pub mod Making
+-- repairs and updates of a line's own table
+pub mod Mending
 -- updates and repairs go by the rules
 pub mod ByRules
 pub mod UpdatesByRules
@@ -123,5 +125,50 @@ pub mod Demands
 pub mod LineWork
 -- the invariant of a card with two lines: a step of the one in hand, and a turn
 pub mod BothLines
--- a card of two lines that is opened, also after a cut at any moment
+-- what the two checks of an opening find, in the words that opening has for it
+pub mod LinesFound
+-- the line that a state holds the work of, on a card of either form: its steps and its starts
+pub mod LineInHand
+-- the invariant of a line of a card of either form, with the line's part of the book
+pub mod LineKept
+-- the tables of two lines that an opening finds, and that what it hands back keeps the invariant
 pub mod BothOpened
+-- opening a card with two lines, also after a cut at any moment
+pub mod LinesOpened
+-- what the opening of a card with two lines accepts, and what it refuses with 4 and 5, exactly
+pub mod LinesShown
+-- starts and calls that name another line keep it
+pub mod LineEvents
+-- THE INVARIANT OF A LINE of a card of either form
+pub mod LineInvariant
+-- runs left uncut on a line's card are runs of the line's own table: what is claimed of those is carried over
+pub mod LineRuns
+-- a card formatted in either form, at "ready"
+pub mod LineFormatted
+-- where the list of a line begins
+pub mod LineBegins
+-- EVERY LIST keeps it
+pub mod LineLists
+-- its repairs and updates go by the rules
+pub mod LineMends
+-- its inserts and deletes, once started
+pub mod LineUpdates
+-- DEMAND 1 of a line of a card of either form: finds, starts and totals; the steps
+pub mod LineRows
+pub mod LineStepRows
+-- DEMAND 3 of a line of a card of either form
+pub mod LinePowerCuts
+-- a repair of opening's on it ends, and leaves its table right
+pub mod LineEnds
+-- DEMAND 2 of a line of a card of either form: formatting
+pub mod LineFormats
+-- and all of it
+pub mod LineDictionary
+-- a start on the line at rest is one on the state turned to it
+pub mod LineTurns
+-- THE REQUESTS of a line of a card of either form: W-204, W-214, W-201, W-205, W-203
+pub mod LineTotals
+pub mod LineDepths
+pub mod LineNext
+pub mod LineSearch
+pub mod LineTold

@@ -9,7 +9,7 @@ use Rattle.demands.specs.Book.{Book}
 use Rattle.demands.specs.Events.{World}
 use Rattle.demands.specs.Way.{nodes_on}
 use Rattle.demands.specs.Refusals.{ByRows, card_rows, end}
-use Rattle.demands.specs.W201.{AnswersNext, HeldTo, Rises, Walks, Walked, OnAnyCard, W201, ends, goes_on}
+use Rattle.demands.specs.W201.{AnswersNext, HeldTo, Rises, Walks, Walked, OnAnyCard, next_rows, W201, ends, goes_on}
 use Rattle.demands.specs.RationTable.{ration_table}
 use Rattle.demands.proofs.PowerCuts.{Covered, always}
 use Rattle.demands.proofs.FirstRows.{by_card, card_one}
@@ -35,7 +35,7 @@ use Rattle.theory_tree.specs.WellFormed.{WellFormed}
 
 -- ---- the answer's numbers
 
-answered : (l ps : List (ℕ × ℕ)) → ((key : ℕ) → lookup key ps ≡ lookup key l) → (number : ℕ) (s : Successor) → IsNext ps number s → AnswersNext l number (next_reply s)
+pub answered : (l ps : List (ℕ × ℕ)) → ((key : ℕ) → lookup key ps ≡ lookup key l) → (number : ℕ) (s : Successor) → IsNext ps number s → AnswersNext l number (next_reply s)
 unfolding next_reply
 answered l ps same number (Pair key value) i =
     inl (key, value, record { greater = i.0; held = sym (same key) ∙ i.1; smallest = λ k a b. sym (same k) ∙ i.2 k (omega arith) b }, refl)
@@ -68,7 +68,7 @@ module _ (greatest : ℕ) (c : List ℕ) (t : Tree) (w : WellFormed c t) (e : ca
       go Nothing q i l further = ends (ap next_reply q)
       go (Refused r) q i l further = absurd i
 
-  walked : (l : List (ℕ × ℕ)) → ((key : ℕ) → lookup key (pairs t) ≡ lookup key l) → length (pairs t) ≡ length l → Walked (ration_table greatest) c l
+  pub walked : (l : List (ℕ × ℕ)) → ((key : ℕ) → lookup key (pairs t) ≡ lookup key l) → length (pairs t) ≡ length l → Walked (ration_table greatest) c l
   walked l same as_many =
       let most = suc (length (pairs t)) in
       record {
@@ -81,7 +81,7 @@ module _ (greatest : ℕ) (c : List ℕ) (t : Tree) (w : WellFormed c t) (e : ca
 
 -- ---- every card
 
-on_any_card : (greatest : ℕ) (c : List ℕ) → card_refusal greatest c ≡ 0 → OnAnyCard (ration_table greatest) c
+pub on_any_card : (greatest : ℕ) (c : List ℕ) → card_refusal greatest c ≡ 0 → OnAnyCard (ration_table greatest) c
 on_any_card greatest c e =
     record {
       held_to = λ number. held number (next_of greatest 1 c number) (next_above greatest c number e);
@@ -121,7 +121,7 @@ module _ (greatest : ℕ) (w : World (ration_table greatest)) (b : Book) (v : Co
   walk_now : Walked (ration_table greatest) w.card b.held
   walk_now = walked greatest w.card v.inv.tree (table_well_formed greatest v.inv.table) accepted b.held same_pairs as_many_pairs
 
-pub w_201 : (greatest : ℕ) → W201 greatest (ration_table greatest)
+pub w_201 : (greatest : ℕ) → W201 greatest (ration_table greatest) next_rows
 w_201 greatest =
     record {
       moments = always greatest (λ w b. (number : ℕ) → number < key_limit → AnswersNext b.held number ((ration_table greatest).next w.card number)) (moment greatest);

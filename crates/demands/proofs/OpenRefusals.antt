@@ -41,17 +41,17 @@ says OpenedIdle r h = (λ e. absurd (omega (arith, ap (λ (x : Reply). x.code) e
 says Started r h = (λ e. absurd (omega (arith, ap (λ (x : Reply). x.code) e)), λ e. impossible (cc))
 says (BegunRefused k) r h = (λ e. ap BegunRefused (ap (λ (x : Reply). x.code) e), λ e. ap start_reply e)
 
-through : {P : Type 0} (b : Begun) (r : ℕ) → r < 64 → (b ≡ BegunRefused r) ↔ P → (start_reply b ≡ refusal r) ↔ P
+pub through : {P : Type 0} (b : Begun) (r : ℕ) → r < 64 → (b ≡ BegunRefused r) ↔ P → (start_reply b ≡ refusal r) ↔ P
 through b r h p = (λ e. p.0 ((says b r h).0 e), λ q. (says b r h).1 (p.1 q))
 
 -- a refusal has one number, and is neither of the other answers
-refused_same : (a b : ℕ) → ◌≡◌ {A = Begun} (BegunRefused a) (BegunRefused b) → a ≡ b
+pub refused_same : (a b : ℕ) → ◌≡◌ {A = Begun} (BegunRefused a) (BegunRefused b) → a ≡ b
 refused_same a b e = cc
 
-started_not : {P : Type 0} (r : ℕ) → ◌≡◌ {A = Begun} Started (BegunRefused r) → P
+pub started_not : {P : Type 0} (r : ℕ) → ◌≡◌ {A = Begun} Started (BegunRefused r) → P
 started_not r e = impossible (cc)
 
-idle_not : {P : Type 0} (r : ℕ) → ◌≡◌ {A = Begun} OpenedIdle (BegunRefused r) → P
+pub idle_not : {P : Type 0} (r : ℕ) → ◌≡◌ {A = Begun} OpenedIdle (BegunRefused r) → P
 idle_not r e = impossible (cc)
 
 -- a table that the check does not accept
@@ -82,7 +82,7 @@ header_three c n e =
     rw (eq-eqb (get_or c 0 0) 1 e) (must_three c 1 n _ (must_three c 2 8 _ (must_three c 3 24 _ (must_three c 5 0 _ (must_three c 6 0 _ (must_three c 7 0 0 (inl refl)))))))
 
 -- what the check notes is what the tree has: "the 11-child nodes without a break straight above a tagged node"
-balanced_reserves : (t : Tree) → RootOk t → table_violations t ≡ 0 → reserves 0 t ≡ 0
+pub balanced_reserves : (t : Tree) → RootOk t → table_violations t ≡ 0 → reserves 0 t ≡ 0
 balanced_reserves (leaf m ks vs) w z = refl
 balanced_reserves (node m true f) w z = absurd w
 balanced_reserves (node m false f) w z = omega (arith, all_reserves_none (run_below (length (roots f)) 0) f z)

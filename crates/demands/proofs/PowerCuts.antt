@@ -1,6 +1,6 @@
 -- What holds of every card, state and book that a list leaves; DEMAND 3.
 use mathlib.Core.Path.{◌≡◌, refl, ap, sym, ◌∙◌}
-use mathlib.Core.Bool.{false}
+use mathlib.Core.Bool.{Bool, false}
 use mathlib.Core.List.{List, [], ◌∷◌}
 use mathlib.Core.Logic.{◌⊎◌, inl, inr, ⊎_map}
 use mathlib.Core.Option.{Option, none, some}
@@ -10,16 +10,16 @@ use Rattle.theory_change.proofs.Line.{Line, only}
 use Rattle.demands.proofs.BookLaws.{dictionary_answer}
 use Rattle.demands.proofs.Invariant.{Inv}
 use Rattle.demands.proofs.WayDown.{sized_on}
-use Rattle.demands.specs.Events.{Event, World, opened, reply_to, happens, run, LeftUncut, steps_in, SaysReady, Opens, ask, insert, delete, step, cut}
+use Rattle.demands.specs.Events.{Event, World, opened, reply_to, happens, run, LeftUncut, steps_in, SaysReady, Opens, ask, insert, delete, step, elsewhere, cut}
 use Rattle.demands.specs.Book.{Book, book, feed, outcome, told, kept, empty}
 use Rattle.demands.specs.RationTable.{ration_table}
 use Rattle.card.specs.Replies.{ready, idle}
-use Rattle.demands.specs.Worked.{dictionary, Always, BalancedWith}
+use Rattle.demands.specs.Worked.{dictionary, Always, BalancedWith, Unreached}
 use Rattle.demands.specs.Demand3.{most_repair_steps, Ended, Survives, Demand3}
 use Rattle.demands.specs.Way.{nodes_on}
 use Rattle.demands.proofs.Finished.{inv_rests}
 use Rattle.demands.proofs.Finishing.{Rests}
-use Rattle.demands.proofs.PowerLoss.{loosen, reopened_inv, reopened_due, kept_from, repair_ends, empty_fed, ask_same, insert_same, delete_same, idle_not_busy}
+use Rattle.demands.proofs.PowerLoss.{loosen, reopened_inv, reopened_due, kept_from, repair_ends, empty_fed, ask_same, elsewhere_same, insert_same, delete_same, idle_not_busy}
 use Rattle.demands.proofs.Reopen.{reopened}
 use Rattle.demands.proofs.ReplyLaws.{code_of}
 use Rattle.demands.proofs.Starting.{nodes_same, same_lookup}
@@ -29,7 +29,9 @@ use Rattle.call_find.specs.Answers.{found_reply}
 use Rattle.call_find.specs.Find.{find_of}
 use Rattle.card.specs.Layout.{key_limit}
 use Rattle.call_open.specs.Opening.{open_of}
+use Rattle.theory_tree.specs.FreeNodes.{Exact}
 use Rattle.theory_tree.specs.Pairs.{pairs, lookup}
+use Rattle.theory_tree.specs.Tree.{Tree}
 use Rattle.demands.proofs.Steps.{idle_world}
 use Rattle.demands.proofs.Stepping.{Moves, kept_step, was_idle, ends_now, goes_further}
 use Rattle.state.specs.Answers.{step_reply, start_reply}
@@ -52,6 +54,10 @@ pub record Covered (greatest : ℕ) (w : World (ration_table greatest)) (b : Boo
 pub covered_nodes : (greatest : ℕ) {w : World (ration_table greatest)} {b : Book} (v : Covered greatest w b) → nodes_on w.card ≡ w.state.nodes
 covered_nodes greatest {w} {b} v = sized_on greatest w.card v.size v.inv.table.sized ∙ sym (nodes_same greatest (only v.size) v.steps w b v.inv)
 
+-- on a card with one line no node is reached from elsewhere
+pub alone_unreached : {n : ℕ} {free : List Bool} {t : Tree} → Exact n free t → Unreached [] n free t
+alone_unreached x = record { trees = []; hold = tt; size = x.size; within = λ m a b. omega (arith, x.within m a b); outside_none = x.outside_none }
+
 -- what holds of covered tables holds always
 pub always : (greatest : ℕ) (Claim : World (ration_table greatest) → Book → Type 0)
     → ((w : World (ration_table greatest)) (b : Book) → Covered greatest w b → Claim w b) → Always (ration_table greatest) Claim
@@ -72,10 +78,11 @@ module _ (greatest : ℕ) (line : Line) (k : ℕ) (l : List (ℕ × ℕ)) where
       (rw (empty_fed (outcome (reply_to (ration_table greatest) step w)) l) at q.0.0, q.2)
 
   -- a run without a cut keeps it
-  run_held : (qs : List Event) (w : World (ration_table greatest)) → LeftUncut (ration_table greatest) qs w → Held w → Held (run (ration_table greatest) qs w)
+  pub run_held : (qs : List Event) (w : World (ration_table greatest)) → LeftUncut (ration_table greatest) qs w → Held w → Held (run (ration_table greatest) qs w)
   unfolding LeftUncut run
   run_held [] w u i = i
   run_held (ask question ∷ qs) w u i = run_held qs (happens (ration_table greatest) (ask question) w) u.1 (rw (ask_same greatest question w) i)
+  run_held (elsewhere x ∷ qs) w u i = run_held qs (happens (ration_table greatest) (elsewhere x) w) u.1 (rw (elsewhere_same greatest x w) i)
   run_held (insert key value ∷ qs) w u i = run_held qs (happens (ration_table greatest) (insert key value) w) u.1 (rw (insert_same greatest key value w u.0) i)
   run_held (delete key ∷ qs) w u i = run_held qs (happens (ration_table greatest) (delete key) w) u.1 (rw (delete_same greatest key w u.0) i)
   run_held (step ∷ qs) w u i = run_held qs (happens (ration_table greatest) step w) u.1 (step_held_lem w i).0
@@ -98,11 +105,11 @@ module _ (greatest : ℕ) (line : Line) (k : ℕ) (l : List (ℕ × ℕ)) where
   step_idle w m (inl e) = ap (λ (x : World (ration_table greatest)). x.state.doing) (idle_world greatest w e) ∙ e
   step_idle w m (inr r) = ready_idle w m r
 
-  no_step : {e : Event} {A B : Type 0} → (e ≡ step → ⊥) → ((e ≡ step) × A) ⊎ B → B
+  pub no_step : {e : Event} {A B : Type 0} → (e ≡ step → ⊥) → ((e ≡ step) × A) ⊎ B → B
   no_step d (inl z) = absurd (d z.0)
   no_step d (inr z) = z
 
-  rest_idle : (qs : List Event) (w : World (ration_table greatest)) → LeftUncut (ration_table greatest) qs w → Held w
+  pub rest_idle : (qs : List Event) (w : World (ration_table greatest)) → LeftUncut (ration_table greatest) qs w → Held w
       → (w.state.doing ≡ Idle) ⊎ SaysReady (ration_table greatest) qs w → Held (run (ration_table greatest) qs w) × ((run (ration_table greatest) qs w).state.doing ≡ Idle)
   unfolding run LeftUncut SaysReady
   rest_idle [] w u i (inl e) = (i, e)
@@ -113,6 +120,9 @@ module _ (greatest : ℕ) (line : Line) (k : ℕ) (l : List (ℕ × ℕ)) where
   rest_idle (ask question ∷ qs) w u i r =
       let e = ask_same greatest question w in
       rest_idle qs (happens (ration_table greatest) (ask question) w) u.1 (rw e i) (⊎_map (λ z. rw e z) (no_step (λ z. impossible (cc))) r)
+  rest_idle (elsewhere x ∷ qs) w u i r =
+      let e = elsewhere_same greatest x w in
+      rest_idle qs (happens (ration_table greatest) (elsewhere x) w) u.1 (rw e i) (⊎_map (λ z. rw e z) (no_step (λ z. impossible (cc))) r)
   rest_idle (insert key value ∷ qs) w u i r =
       let e = insert_same greatest key value w u.0 in
       rest_idle qs (happens (ration_table greatest) (insert key value) w) u.1 (rw e i) (⊎_map (λ z. rw e z) (no_step (λ z. impossible (cc))) r)

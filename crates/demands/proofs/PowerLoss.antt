@@ -12,7 +12,7 @@ use Rattle.card.specs.Lines.{has_line, seen}
 use Rattle.theory_change.proofs.Line.{Line, only, size, partition_only, only_apart}
 use Rattle.card.specs.Replies.{refusal, ready, stored, started as startedReply}
 use Rattle.state.specs.Answers.{step_reply, start_reply}
-use Rattle.state.specs.Steps.{no_beginning, is_idle, step_refused, format_store}
+use Rattle.state.specs.Steps.{no_beginning, is_idle, step_refused, formatted_word, format_store}
 use Rattle.call_start.specs.Starts.{start_depth, format_of, start_refused, start_accepted, start_landed, start_checked, start_of, insert_of, delete_of, room_of}
 use Rattle.call_step.specs.Calls.{step_of, repair_steps}
 use Rattle.state.specs.Memory.{Memory, resting}
@@ -37,10 +37,11 @@ use Rattle.demands.proofs.ReplyLaws.{code_of, is_refused}
 use Rattle.demands.proofs.Invariant.{Table, UpdateSteps, Stage, Inv, stage_idle, stage_put, stage_remove, stage_first, stage_between, stage_within}
 use Rattle.demands.specs.Book.{Outcome, Hand, Book, book, fed_step, feed, told, outcome, kept, empty}
 use Rattle.demands.proofs.BookLaws.{Same, same_refl}
-use Rattle.demands.specs.Events.{Question, Event, World, opened, reply_to, happens, run, Words, LeftUncut, steps_in, SaysReady, format_begun}
-use Rattle.demands.specs.Events.{Opens, Begins, ask, insert, delete, step, cut, from_format, from_open}
+use Rattle.demands.specs.Events.{Event, World, opened, reply_to, happens, run, Words, LeftUncut, steps_in, SaysReady, format_begun}
+use Rattle.demands.specs.Events.{Opens, Begins, ask, insert, delete, step, elsewhere, cut, from_format, from_open}
 use Rattle.demands.specs.RationTable.{ration_table}
-use Rattle.demands.specs.Table.{Refused}
+use Rattle.call_start.specs.CardStarts.{one_line, two_lines}
+use Rattle.demands.specs.Table.{Question, Elsewhere, Refused}
 use Rattle.demands.proofs.Finishing.{MapIs}
 use Rattle.demands.proofs.Reopen.{well_formed_table, reopened, table_well_formed}
 use Rattle.demands.proofs.Starting.{same_lookup, kept_insert, kept_delete}
@@ -68,7 +69,7 @@ start_landed_unchanged m doing depth room NoLanding r e = refl
 start_landed_unchanged m doing depth true (LandingAt number link run) r e = impossible (cc)
 start_landed_unchanged m doing depth false (LandingAt number link run) r e = refl
 
-start_unchanged : (greatest : ℕ) (c : List ℕ) (m : Memory) (key : ℕ) (doing : Doing) (room : Landing → Bool) (r : ℕ)
+pub start_unchanged : (greatest : ℕ) (c : List ℕ) (m : Memory) (key : ℕ) (doing : Doing) (room : Landing → Bool) (r : ℕ)
     → (start_of greatest 1 c m key doing room).begun ≡ BegunRefused r → (start_of greatest 1 c m key doing room).memory ≡ m
 unfolding start_of start_checked start_refused start_accepted has_line
 start_unchanged greatest c m key doing room r e =
@@ -103,6 +104,11 @@ pub ask_same : (greatest : ℕ) (question : Question) (w : World (ration_table g
 unfolding happens
 ask_same greatest question w = refl
 
+-- the table of its own knows no other line
+pub elsewhere_same : (greatest : ℕ) (x : Elsewhere) (w : World (ration_table greatest)) → happens (ration_table greatest) (elsewhere x) w ≡ w
+unfolding happens
+elsewhere_same greatest x w = refl
+
 -- ---- more steps than needed are enough; a cut; any events
 
 pub loosen : (greatest : ℕ) (line : Line) (few many : ℕ) (w : World (ration_table greatest)) (b : Book) → few ≤ many → Inv greatest line few w b → Inv greatest line many w b
@@ -115,6 +121,7 @@ loosen greatest line few many w b h i =
       openable = i.openable;
       same = i.same;
       apart = i.apart;
+      reserved = i.reserved;
       counted = i.counted;
       stage = at i.stage;
     }
@@ -153,6 +160,7 @@ reopened_inv greatest n c t l b o s =
       openable = o;
       same = s;
       apart = only_apart n t b.sound.once;
+      reserved = omega (arith, r.none_back);
       counted = rw r.rebuilt (table_totals c n t b.sized.words b.sized.most (table_well_formed greatest b));
       stage = r.stage;
     })
@@ -171,6 +179,11 @@ ask_keeps : (greatest : ℕ) (line : Line) (steps : ℕ) (w : World (ration_tabl
 unfolding happens feed told
 ask_keeps greatest line steps w b question i = i
 
+elsewhere_keeps : (greatest : ℕ) (line : Line) (steps : ℕ) (w : World (ration_table greatest)) (b : Book) (x : Elsewhere) → Inv greatest line steps w b
+    → Inv greatest line steps (happens (ration_table greatest) (elsewhere x) w) (feed (told (ration_table greatest) (elsewhere x) w) b)
+unfolding happens feed told
+elsewhere_keeps greatest line steps w b x i = i
+
 cut_keeps : (greatest : ℕ) (n steps : ℕ) (w : World (ration_table greatest)) (b : Book) → Inv greatest (only n) steps w b
     → Inv greatest (only n) repair_steps (happens (ration_table greatest) cut w) (feed (told (ration_table greatest) cut w) b)
 unfolding happens feed told
@@ -181,7 +194,8 @@ pub inv_kept : (greatest : ℕ) (n : ℕ) (es : List Event) (steps : ℕ) (w : W
 unfolding run kept
 inv_kept greatest n [] steps w b u i = (steps, i)
 inv_kept greatest n (ask question ∷ es) steps w b u i = inv_kept greatest n es steps _ _ u (ask_keeps greatest (only n) steps w b question i)
-inv_kept greatest n (insert key value ∷ es) steps w b u i = let q = kept_insert greatest n steps w b i key value u.0 in inv_kept greatest n es q.0 _ _ u.1 q.1
+inv_kept greatest n (elsewhere x ∷ es) steps w b u i = inv_kept greatest n es steps _ _ u.1 (elsewhere_keeps greatest (only n) steps w b x i)
+inv_kept greatest n (insert key value ∷ es) steps w b u i = let q = kept_insert greatest (only n) steps w b i key value u.0 in inv_kept greatest n es q.0 _ _ u.1 q.1
 inv_kept greatest n (delete key ∷ es) steps w b u i = let q = kept_delete greatest (only n) steps w b i key u.0 in inv_kept greatest n es q.0 _ _ u.1 q.1
 inv_kept greatest n (step ∷ es) steps w b u i = inv_kept greatest n es steps _ _ u (kept_step greatest (only n) steps w b (loosen greatest (only n) steps (suc steps) w b (omega arith) i)).0.0
 inv_kept greatest n (cut ∷ es) steps w b u i = inv_kept greatest n es repair_steps _ _ u (cut_keeps greatest n steps w b i)
@@ -194,10 +208,10 @@ format_starts_sized greatest c e z = omega (arith, code_of (rw (format_refused g
 
 begun_world : (greatest : ℕ) (c : List ℕ) (n : ℕ) → Sized greatest (length c) n → ◌≡◌ {A = World (ration_table greatest)}
     (record { card = c; state = (format_of greatest c).memory }) (record { card = format_card n c 0; state = format_memory n 0 })
-begun_world greatest c n s = rw (format_starts greatest c n s, format_untouched n c)
+begun_world greatest c n s = rw (format_starts greatest c n s, format_untouched (formatted_word n) 1 c)
 
 -- the fresh table is idle, with no pair
-fresh_inv : (greatest : ℕ) (n : ℕ) (c : List ℕ) → FreshTable greatest c n → Inv greatest (only n) repair_steps (record { card = c; state = fresh_memory n }) (book [] empty)
+pub fresh_inv : (greatest : ℕ) (n : ℕ) (c : List ℕ) → FreshTable greatest c n → Inv greatest (only n) repair_steps (record { card = c; state = fresh_memory n }) (book [] empty)
 unfolding resting
 fresh_inv greatest n c f =
     let room : size fresh_tree + 3 ≤ n = omega (arith, f.sized.least) in
@@ -209,6 +223,7 @@ fresh_inv greatest n c f =
       openable = record { key = 0; deep = 0; ready = settled f.no_violations room };
       same = record { totals = λ w. ap (total w) f.no_pairs };
       apart = only_apart n fresh_tree f.sound.once;
+      reserved = omega arith;
       counted = rw f.no_pairs totals_none;
       stage = stage_idle f.no_violations room (partition_only c n (fresh_nodes n) fresh_tree f.sized.words f.holds.2 f.exact) refl;
     }
@@ -225,6 +240,7 @@ ready_once greatest c n f (step ∷ qs) w e u q =
     ready_once greatest c n f qs (happens (ration_table greatest) step w)
     (rw (e, step_idle greatest c n f.sized f.formatted (fresh_nodes n) formatted_root)) u.1 q
 ready_once greatest c n f (ask question ∷ qs) w e u q = ready_once greatest c n f qs w e u.1 q
+ready_once greatest c n f (elsewhere x ∷ qs) w e u q = ready_once greatest c n f qs w e u.1 q
 ready_once greatest c n f (insert key value ∷ qs) w e u q = ready_once greatest c n f qs (happens (ration_table greatest) (insert key value) w) (insert_same greatest key value w u.0 ∙ e) u.1 q
 ready_once greatest c n f (delete key ∷ qs) w e u q = ready_once greatest c n f qs (happens (ration_table greatest) (delete key) w) (delete_same greatest key w u.0 ∙ e) u.1 q
 ready_once greatest c n f (cut ∷ qs) w e u q = absurd u.0
@@ -254,6 +270,7 @@ format_ready_inv greatest c n made s (step ∷ qs) w e h u q =
     ended : made ≡ suc (length c) → happens (ration_table greatest) step w ≡ record { card = format_card n c (suc (length c)); state = fresh_memory n }
     ended m = rw (e, m, format_step_ready greatest c n s)
 format_ready_inv greatest c n made s (ask question ∷ qs) w e h u q = format_ready_inv greatest c n made s qs w e h u.1 q
+format_ready_inv greatest c n made s (elsewhere x ∷ qs) w e h u q = format_ready_inv greatest c n made s qs w e h u.1 q
 format_ready_inv greatest c n made s (insert key value ∷ qs) w e h u q =
     format_ready_inv greatest c n made s qs
     (happens (ration_table greatest) (insert key value) w) (insert_same greatest key value w u.0 ∙ e) h u.1 q
@@ -262,30 +279,37 @@ format_ready_inv greatest c n made s (delete key ∷ qs) w e h u q =
 format_ready_inv greatest c n made s (cut ∷ qs) w e h u q = absurd u.0
 
 -- the card and the state at "ready", whatever the card held before
-pub fresh_world : (greatest : ℕ) (c : List ℕ) (qs : List Event) → ((ration_table greatest).format c).reply ≡ startedReply → LeftUncut (ration_table greatest) qs (format_begun (ration_table greatest) c)
-    → reply_to (ration_table greatest) step (run (ration_table greatest) qs (format_begun (ration_table greatest) c)) ≡ ready
+pub fresh_world : (greatest : ℕ) (c : List ℕ) (qs : List Event) → ((ration_table greatest).format one_line c).reply ≡ startedReply
+    → LeftUncut (ration_table greatest) qs (format_begun (ration_table greatest) one_line c)
+    → reply_to (ration_table greatest) step (run (ration_table greatest) qs (format_begun (ration_table greatest) one_line c)) ≡ ready
     → Sized greatest (length c) (nodes_of_length greatest (length c))
-    × (happens (ration_table greatest) step (run (ration_table greatest) qs (format_begun (ration_table greatest) c))
+    × (happens (ration_table greatest) step (run (ration_table greatest) qs (format_begun (ration_table greatest) one_line c))
     ≡ record { card = format_card (nodes_of_length greatest (length c)) c (suc (length c)); state = fresh_memory (nodes_of_length greatest (length c)) })
 fresh_world greatest c qs e u r = go (ℕ_discrete (nodes_of_length greatest (length c)) 0)
   where
     go : Dec (nodes_of_length greatest (length c) ≡ 0) → Sized greatest (length c) (nodes_of_length greatest (length c))
-        × (happens (ration_table greatest) step (run (ration_table greatest) qs (format_begun (ration_table greatest) c))
+        × (happens (ration_table greatest) step (run (ration_table greatest) qs (format_begun (ration_table greatest) one_line c))
         ≡ record { card = format_card (nodes_of_length greatest (length c)) c (suc (length c)); state = fresh_memory (nodes_of_length greatest (length c)) })
     go (yes z) = absurd (format_starts_sized greatest c e z)
     go (no d) =
         let s = nodes_sized greatest (length c) d in (
           s,
-          format_ready_inv greatest c (nodes_of_length greatest (length c)) 0 s qs (format_begun (ration_table greatest) c)
+          format_ready_inv greatest c (nodes_of_length greatest (length c)) 0 s qs (format_begun (ration_table greatest) one_line c)
               (begun_world greatest c (nodes_of_length greatest (length c)) s) (omega arith) u r,
         )
 
+-- a table of its own is not formatted with two lines
+pub not_two : (greatest first second : ℕ) (c : List ℕ) → ((ration_table greatest).format (two_lines first second) c).reply ≡ startedReply → ⊥
+unfolding no_beginning start_reply
+not_two greatest first second c e = omega (arith, code_of e)
+
 pub begins_inv : (greatest : ℕ) (w : World (ration_table greatest)) (l : List (ℕ × ℕ)) → Begins (ration_table greatest) w l → (n : ℕ) × Inv greatest (only n) repair_steps w (book l empty)
-begins_inv greatest w l (from_open c t a k) =
+begins_inv greatest w l (from_open c t a has k) =
     let q = accepted_card greatest c a in
     let b : Table greatest c (nodes_of_length greatest (length c)) t = well_formed_table greatest q.1 q.2 k in
     (nodes_of_length greatest (length c), reopened_inv greatest (nodes_of_length greatest (length c)) c t (pairs t) b (accepted_openable greatest c t a k) (same_refl (pairs t)))
-begins_inv greatest w l (from_format c qs e u r) =
+begins_inv greatest w l (from_format (two_lines first second) c qs e u r has) = absurd (not_two greatest first second c e)
+begins_inv greatest w l (from_format one_line c qs e u r has) =
     let f = fresh_world greatest c qs e u r in (
       nodes_of_length greatest (length c),
       rw f.1 (fresh_inv greatest (nodes_of_length greatest (length c)) (format_card (nodes_of_length greatest (length c)) c (suc (length c)))
@@ -390,6 +414,10 @@ repair_ends greatest line l [] steps w u h r = (loosen greatest line steps 0 w (
 repair_ends greatest line l (ask question ∷ qs) steps w u h r =
     let e = ask_same greatest question w in
     let q = repair_ends greatest line l qs steps (happens (ration_table greatest) (ask question) w) u.1 h (rw e r) in
+    (q.0, ⊎_map (λ z. rw e at z) (λ z. inr z) q.1)
+repair_ends greatest line l (elsewhere x ∷ qs) steps w u h r =
+    let e = elsewhere_same greatest x w in
+    let q = repair_ends greatest line l qs steps (happens (ration_table greatest) (elsewhere x) w) u.1 h (rw e r) in
     (q.0, ⊎_map (λ z. rw e at z) (λ z. inr z) q.1)
 repair_ends greatest line l (insert key value ∷ qs) steps w u h r =
     let e = insert_same greatest key value w u.0 in

@@ -75,7 +75,7 @@ module _ (greatest : ℕ) (c : List ℕ) (t : Tree) (accepted : Opens (ration_ta
 
   -- the invariant then
   kept_after : (n : ℕ) × (k : ℕ) × Inv greatest (only n) k after (kept (ration_table greatest) (steps repair_steps) (opened (ration_table greatest) c) (book (pairs t) empty))
-  kept_after = kept_from greatest (opened (ration_table greatest) c) (pairs t) (from_open c t accepted well) (steps repair_steps) (all_words repair_steps)
+  kept_after = kept_from greatest (opened (ration_table greatest) c) (pairs t) (from_open c t accepted refl well) (steps repair_steps) (all_words repair_steps)
 
   -- the state's N is the card's
   counted : (opened_card greatest c).memory.nodes ≡ nodes_of_length greatest (length (opened_card greatest c).card)

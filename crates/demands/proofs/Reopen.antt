@@ -30,7 +30,7 @@ use Rattle.theory_check.proofs.Ranges.{well_formed_in_range, range_sound}
 use Rattle.theory_check.proofs.Soundness.{sound_accepted}
 use Rattle.state.specs.Steps.{Handed, is_idle}
 use Rattle.call_open.specs.Opening.{open_sound, open_checked, open_of}
-use Rattle.state.specs.Memory.{Memory, resting}
+use Rattle.state.specs.Memory.{Memory, resting, with_back}
 use Rattle.state.specs.declared.Doing.{Doing}
 use Rattle.state.specs.declared.Doing.TheVariants.{Idle, Repairing}
 use Rattle.state.specs.declared.Answer.TheVariants.{Ready}
@@ -103,6 +103,7 @@ pub record Reopened (greatest : ℕ) (c : List ℕ) (n : ℕ) (t : Tree) : Type 
   pub goal_is : goal ≡ settled_by depth_limit (bare t)
   pub stage : Stage c (only n) t goal steps (open_of greatest c).memory empty Ready
   pub rebuilt : (open_of greatest c).memory.totals ≡ table_counted c
+  pub none_back : (open_of greatest c).memory.back ≡ 0
   pub hands : (((open_of greatest c).begun ≡ OpenedIdle) × ((open_of greatest c).memory.doing ≡ Idle)) ⊎ (((open_of greatest c).begun ≡ Started) × (is_idle (open_of greatest c).memory.doing ≡ false))
 
 repair_busy : (n last : ℕ) (totals : List ℕ) (free : List Bool) (key : ℕ) → is_idle (resting n free last totals (Repairing key)).doing ≡ false
@@ -137,10 +138,10 @@ module _ (greatest : ℕ) (c : List ℕ) (line : Line) (t : Tree) (b : Table gre
       at d (settled z r) = r
       at d (violated v₀ w₀ r) = absurd (omega arith)
 
-  module _ (free : List Bool) (x : Partition line free t) (last : ℕ) (totals : List ℕ) where
+  module _ (free : List Bool) (x : Partition line free t) (last : ℕ) (totals : List ℕ) (back : ℕ) where
     -- "or one with the repair in progress"
-    pub opened_broken : (key : ℕ) (v : Violation t key) → table_violations t ≡ 1 → OpenedStage c line t (resting line.nodes free last totals (Repairing key))
-    unfolding resting
+    pub opened_broken : (key : ℕ) (v : Violation t key) → table_violations t ≡ 1 → OpenedStage c line t (with_back back (resting line.nodes free last totals (Repairing key)))
+    unfolding resting with_back
     opened_broken key v w =
         let deep : depth_of v.context ≤ depth_limit = omega (arith, violation_deep t key v, table_depth_limited greatest b) in
         record {
@@ -153,8 +154,8 @@ module _ (greatest : ℕ) (c : List ℕ) (line : Line) (t : Tree) (b : Table gre
         }
 
     -- "an idle state"
-    pub opened_whole : table_violations t ≡ 0 → OpenedStage c line t (resting line.nodes free last totals Idle)
-    unfolding resting
+    pub opened_whole : table_violations t ≡ 0 → OpenedStage c line t (with_back back (resting line.nodes free last totals Idle))
+    unfolding resting with_back
     opened_whole z =
         record {
           steps = 0;
@@ -164,9 +165,18 @@ module _ (greatest : ℕ) (c : List ℕ) (line : Line) (t : Tree) (b : Table gre
           stage = stage_idle z (room_idle z) x refl;
         }
 
-pub totals_in : (n last : ℕ) (totals : List ℕ) (doing : Doing) (free : List Bool) → (resting n free last totals doing).totals ≡ totals
+totals_in : (n last : ℕ) (totals : List ℕ) (doing : Doing) (free : List Bool) → (resting n free last totals doing).totals ≡ totals
 unfolding resting
 totals_in n last totals doing free = refl
+
+-- on a card with one line there is no node that the line may not use
+one_line : (n last : ℕ) (totals : List ℕ) (doing : Doing) (free : List Bool) → with_back 0 (resting n free last totals doing) ≡ resting n free last totals doing
+unfolding resting with_back
+one_line n last totals doing free = refl
+
+back_in : (n last : ℕ) (totals : List ℕ) (doing : Doing) (free : List Bool) → (resting n free last totals doing).back ≡ 0
+unfolding resting
+back_in n last totals doing free = refl
 
 idle_in : (n last : ℕ) (totals : List ℕ) (free : List Bool) → (resting n free last totals Idle).doing ≡ Idle
 unfolding resting
@@ -191,15 +201,16 @@ reopened greatest c n t b o = go (sound_accepted c n b.sized.words b.sized.most 
             let v = x.violation q in
             let room = room_for greatest c (only n) t b o f.key v.0 w in
             let is = open_repair greatest c n h f b.sized b.header e (omega (arith, v.1, room, counted f h x)) q in
-            let work = opened_broken greatest c (only n) t b o f.free (part_of f h x) (search_start c) (table_counted c) f.key v.0 w in
+            let work = opened_broken greatest c (only n) t b o f.free (part_of f h x) (search_start c) (table_counted c) 0 f.key v.0 w in
             record {
               steps = work.steps;
               few_steps = work.few_steps;
-              stage = rw is work.stage;
+              stage = rw (is, ← one_line n (search_start c) (table_counted c) (Repairing f.key) f.free) work.stage;
               goal = work.goal;
               goal_is = work.goal_is;
               hands = inr (ap (λ (x : Handed). x.begun) is, ap (λ (x : Handed). is_idle x.memory.doing) is ∙ repair_busy n (search_start c) (table_counted c) f.free f.key);
               rebuilt = ap (λ (x : Handed). x.memory.totals) is ∙ totals_in n (search_start c) (table_counted c) (Repairing f.key) f.free;
+              none_back = ap (λ (x : Handed). x.memory.back) is ∙ back_in n (search_start c) (table_counted c) (Repairing f.key) f.free;
             }
 
         whole : f.violated ≡ false → Reopened greatest c n t
@@ -207,13 +218,14 @@ reopened greatest c n t b o = go (sound_accepted c n b.sized.words b.sized.most 
             let z : table_violations t ≡ 0 = omega (arith, x.violated, bit_false f.violated q) in
             let r : f.run ≡ 0 = x.no_run q in
             let is = open_idle greatest c n h f b.sized b.header e (omega (arith, room_idle greatest c (only n) t b o z, counted f h x)) q in
-            let work = opened_whole greatest c (only n) t b o f.free (part_of f h x) (search_start c) (table_counted c) z in
+            let work = opened_whole greatest c (only n) t b o f.free (part_of f h x) (search_start c) (table_counted c) 0 z in
             record {
               steps = work.steps;
               few_steps = work.few_steps;
-              stage = rw is work.stage;
+              stage = rw (is, ← one_line n (search_start c) (table_counted c) Idle f.free) work.stage;
               goal = work.goal;
               goal_is = work.goal_is;
               hands = inl (ap (λ (x : Handed). x.begun) is, ap (λ (x : Handed). x.memory.doing) is ∙ idle_in n (search_start c) (table_counted c) f.free);
               rebuilt = ap (λ (x : Handed). x.memory.totals) is ∙ totals_in n (search_start c) (table_counted c) Idle f.free;
+              none_back = ap (λ (x : Handed). x.memory.back) is ∙ back_in n (search_start c) (table_counted c) Idle f.free;
             }

@@ -2,12 +2,14 @@
 use mathlib.Core.Path.{◌≡◌, refl, ap}
 use Prim.Native.Nat.{ℕ, ◌<◌}
 use native.Mathlib.Omega.{arith}
-use Rattle.card.specs.Replies.{Reply, refusal, holds, absent, started}
-use Rattle.demands.proofs.AnswerNumbers.{SmallBegun, SmallFound}
+use Rattle.card.specs.Replies.{Reply, refusal, holds, absent, stored, ready, started}
+use Rattle.demands.proofs.AnswerNumbers.{SmallBegun, SmallFound, SmallAnswer}
 use Rattle.call_find.specs.Answers.{found_reply}
 use Rattle.call_find.specs.declared.Found.{Found}
 use Rattle.call_find.specs.declared.Found.TheVariants.{Value, Absent as NotHeld, Refused as NoLook}
-use Rattle.state.specs.Answers.{start_reply}
+use Rattle.state.specs.Answers.{step_reply, start_reply}
+use Rattle.state.specs.declared.Answer.{Answer}
+use Rattle.state.specs.declared.Answer.TheVariants.{Stored, Ready, Absent, Value as StepValue, Refused as NoStep}
 use Rattle.state.specs.declared.Begun.{Begun}
 use Rattle.state.specs.declared.Begun.TheVariants.{Idle, Started, Refused}
 
@@ -53,3 +55,45 @@ unfolding start_reply
 is_refused Idle h = absurd (omega arith)
 is_refused Started h = absurd (omega arith)
 is_refused (Refused r) h = (r, refl)
+
+-- ---- a step's
+
+pub answer_refused : (a : Answer) (r : ℕ) → r < 64 → step_reply a ≡ refusal r → a ≡ NoStep r
+unfolding step_reply
+answer_refused (Stored p) r h e = absurd (omega (arith, code_of e))
+answer_refused Ready r h e = absurd (omega (arith, code_of e))
+answer_refused Absent r h e = absurd (omega (arith, code_of e))
+answer_refused (StepValue v) r h e = absurd (omega (arith, code_of e))
+answer_refused (NoStep k) r h e = ap NoStep (code_of e)
+
+pub answer_stored : (a : Answer) (p : ℕ) → SmallAnswer a → step_reply a ≡ stored p → a ≡ Stored p
+unfolding step_reply
+answer_stored (Stored k) p s e = ap Stored (ap (λ (x : Reply). x.value) e)
+answer_stored Ready p s e = absurd (omega (arith, code_of e))
+answer_stored Absent p s e = absurd (omega (arith, code_of e))
+answer_stored (StepValue v) p s e = absurd (omega (arith, code_of e))
+answer_stored (NoStep k) p s e = absurd (omega (arith, s, code_of e))
+
+pub answer_ready : (a : Answer) → SmallAnswer a → step_reply a ≡ ready → a ≡ Ready
+unfolding step_reply
+answer_ready (Stored k) s e = absurd (omega (arith, code_of e))
+answer_ready Ready s e = refl
+answer_ready Absent s e = absurd (omega (arith, code_of e))
+answer_ready (StepValue v) s e = absurd (omega (arith, code_of e))
+answer_ready (NoStep k) s e = absurd (omega (arith, s, code_of e))
+
+pub answer_absent : (a : Answer) → SmallAnswer a → step_reply a ≡ absent → a ≡ Absent
+unfolding step_reply
+answer_absent (Stored k) s e = absurd (omega (arith, code_of e))
+answer_absent Ready s e = absurd (omega (arith, code_of e))
+answer_absent Absent s e = refl
+answer_absent (StepValue v) s e = absurd (omega (arith, code_of e))
+answer_absent (NoStep k) s e = absurd (omega (arith, s, code_of e))
+
+pub answer_value : (a : Answer) (v : ℕ) → SmallAnswer a → step_reply a ≡ holds v → a ≡ StepValue v
+unfolding step_reply
+answer_value (Stored k) v s e = absurd (omega (arith, code_of e))
+answer_value Ready v s e = absurd (omega (arith, code_of e))
+answer_value Absent v s e = absurd (omega (arith, code_of e))
+answer_value (StepValue k) v s e = ap StepValue (ap (λ (x : Reply). x.value) e)
+answer_value (NoStep k) v s e = absurd (omega (arith, s, code_of e))

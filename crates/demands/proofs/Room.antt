@@ -2,6 +2,7 @@
 use mathlib.Core.Path.{◌≡◌, ap, ◌∙◌}
 use mathlib.Core.Bool.{Bool, true, false}
 use Prim.Native.Nat.{ℕ, ◌≤◌, ◌<◌}
+use native.Mathlib.Omega.{arith}
 use Rattle.card.specs.Lines.{seen}
 use Rattle.call_start.proofs.StartLaws.{room_seen}
 use Rattle.theory_change.proofs.Line.{only}
@@ -15,7 +16,7 @@ use Rattle.card.specs.Layout.{lowest_key, key_limit, node_at}
 use Rattle.card_free.specs.NodeSet.{count_true}
 use Rattle.laws.specs.Cases.{pick}
 use Rattle.demands.proofs.Invariant.{Inv}
-use Rattle.demands.proofs.RoomLaws.{room_at, room_enough, room_short, room_other, begun_started}
+use Rattle.demands.proofs.RoomLaws.{room_bits, room_at, room_enough, room_short, room_other, begun_started}
 use Rattle.demands.proofs.Starting.{lands, room_decides}
 use Rattle.demands.specs.Book.{Book}
 use Rattle.demands.specs.Events.{World}
@@ -46,12 +47,12 @@ module _ (greatest : ℕ) {n steps : ℕ} {w : World (ration_table greatest)} {b
     module _ (leaf j : ℕ) (leads : LeadsTo greatest w key leaf j) where
       -- "A splitting insert needs j + 5 free nodes", and with them it is started
       pub splitting_insert_starts : insert_reason (node_at w.card leaf) key ≡ full → split_need j ≤ count_true w.state.free → (insert_of greatest 1 w.card w.state key value).begun ≡ Started
-      splitting_insert_starts e h = insert_starts (room_at _ _ key _ leaf leads.0 j leads.1 ∙ room_enough _ j _ e h)
+      splitting_insert_starts e h = insert_starts (room_at _ _ key _ leaf leads.0 j leads.1 ∙ room_enough _ j _ e (omega (arith, h, room_bits greatest i)))
 
       -- "8: key absent, leaf full, free nodes fewer than j + 5"
       pub splitting_insert_refused : insert_reason (node_at w.card leaf) key ≡ full → count_true w.state.free < split_need j
           → insert_of greatest 1 w.card w.state key value ≡ start_refused 8 w.state
-      splitting_insert_refused e h = insert_decided_lem false (room_at _ _ key _ leaf leads.0 j leads.1 ∙ room_short _ j _ e h)
+      splitting_insert_refused e h = insert_decided_lem false (room_at _ _ key _ leaf leads.0 j leads.1 ∙ room_short _ j _ e (omega (arith, h, room_bits greatest i)))
 
       -- a key that is held, or a leaf with an empty slot, needs no room
       pub other_insert_starts : (insert_reason (node_at w.card leaf) key ≡ full → ⊥) → (insert_of greatest 1 w.card w.state key value).begun ≡ Started

@@ -3,14 +3,25 @@ use mathlib.Core.Path.{◌≡◌, refl, ap}
 use mathlib.Core.List.{List}
 use mathlib.Core.Bool.{true, false}
 use Prim.Native.Nat.{ℕ, ◌≤◌, ◌<◌}
+use native.Mathlib.Omega.{arith}
 use borrow.Author.Tests.{lt-ltb, le-ltb}
 use Rattle.card.specs.Layout.{node_at}
-use Rattle.call_start.specs.Starts.{start_accepted}
+use Rattle.call_start.specs.Starts.{start_accepted, room_of}
 use Rattle.state.specs.Memory.{Memory}
 use Rattle.call_change.specs.Updates.{Reason, held, slot, full, landing, insert_reason, split_need, room_for, start_room}
 use Rattle.state.specs.declared.Doing.{Doing}
 use Rattle.state.specs.declared.Begun.TheVariants.{Started}
+use Rattle.card_free.specs.NodeSet.{count_true}
+use Rattle.theory_change.proofs.Line.{only}
+use Rattle.demands.specs.Book.{Book}
+use Rattle.demands.specs.Events.{World}
+use Rattle.demands.specs.RationTable.{ration_table}
+use Rattle.demands.proofs.Invariant.{Inv}
 use Rattle.walk.specs.declared.Landing.TheVariants.{Leaf as LandingAt}
+
+-- on a card with one line the room of an insert is the bits
+pub room_bits : (greatest : ℕ) {n steps : ℕ} {w : World (ration_table greatest)} {b : Book} → Inv greatest (only n) steps w b → room_of w.state ≡ count_true w.state.free
+room_bits greatest i = omega (arith, i.reserved)
 
 pub room_at : (c : List ℕ) (n key : ℕ) (room : ℕ) (leaf link j : ℕ) → landing c n key ≡ LandingAt leaf link j
     → start_room c key room (landing c n key) ≡ room_for room j (insert_reason (node_at c leaf) key)

@@ -21,3 +21,18 @@ module _ {refuses : ℕ → Type 0} {works : Type 0} where
   rows_map end n f g w = g w
   rows_map (row number due rows) n f g (inl d) = inl (d.0, f number n.0 d.1)
   rows_map (row number due rows) n f g (inr d) = inr (d.0, rows_map rows n.1 f g d.1)
+
+-- one row: it is due, or the others are
+module _ (refuses : ℕ → Type 0) (works : Type 0) (number : ℕ) (due : Type 0) (rows : Rows) where
+  pub row_due : due → refuses number → ByRows (row number due rows) refuses works
+  unfolding ByRows
+  row_due d r = inl (d, r)
+
+  pub row_past : (due → ⊥) → ByRows rows refuses works → ByRows (row number due rows) refuses works
+  unfolding ByRows
+  row_past d w = inr (d, w)
+
+  pub past_row : (due → ⊥) → ByRows (row number due rows) refuses works → ByRows rows refuses works
+  unfolding ByRows
+  past_row d (inl x) = absurd (d x.0)
+  past_row d (inr x) = x.1

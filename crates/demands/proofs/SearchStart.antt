@@ -34,7 +34,7 @@ use Rattle.call_step.proofs.StepLaws.{step_sized, step_unsized}
 use Rattle.theory_format.proofs.FreshTable.{format_fresh}
 use Rattle.walk.specs.declared.Landing.{Landing}
 use Rattle.walk.specs.declared.Landing.TheVariants.{Refused as NoLanding, Leaf as LandingAt}
-use Rattle.demands.specs.Events.{Event, World, happens, run, Begins, ask, insert, delete, step, cut, from_format, from_open}
+use Rattle.demands.specs.Events.{Event, World, happens, run, Begins, ask, insert, delete, step, elsewhere, cut, from_format, from_open}
 use Rattle.demands.specs.RationTable.{ration_table}
 use Rattle.demands.specs.Rules.{Given, none_given, then_given, marked, written, InsertRule, DeleteRule, RepairRule}
 use Rattle.demands.specs.Rules.{leaf_holding, kind_under, keys_with, children_with, keys_left, routes, kids}
@@ -45,7 +45,8 @@ use Rattle.demands.proofs.Accepting.{accepted_start}
 use Rattle.demands.proofs.FirstRows.{sized?}
 use Rattle.demands.proofs.WayDown.{sized_on}
 use Rattle.demands.proofs.StepRows.{advanced_last}
-use Rattle.demands.proofs.PowerLoss.{fresh_world}
+use Rattle.demands.proofs.PowerLoss.{fresh_world, not_two}
+use Rattle.call_start.specs.CardStarts.{one_line, two_lines}
 use Rattle.demands.proofs.PlannedNumbers.{ByRule}
 use Rattle.demands.proofs.PlannedRepairs.{repair_by_rule}
 use Rattle.demands.proofs.PlannedUpdates.{insert_by_rule, delete_by_rule}
@@ -162,7 +163,7 @@ module _ (greatest : ℕ) (c : List ℕ) (m : Memory) where
   unfolding step_checked step_refused
   checked_holds due h = bool_cases (eqb (header_refusal c m.nodes) 0) (λ q. rw q h) (λ q. rw q (λ e. refl))
 
-  format_holds : (made : ℕ) (o : Option Store) → Keeps (step_format c m made o).memory
+  pub format_holds : (made : ℕ) (o : Option Store) → Keeps (step_format c m made o).memory
   unfolding step_format step_final idled formatting_from
   format_holds made none = λ e. refl
   format_holds made (some s) = λ e. refl
@@ -175,7 +176,7 @@ module _ (greatest : ℕ) (c : List ℕ) (m : Memory) where
       checked_holds _ (subst Keeps (sym (on_memory 1 c (step_task (seen 1 c) m task m.rest)))
       (task_holds greatest (seen 1 c) m task m.rest (sized_on greatest (seen 1 c) m.nodes (seen_sized 1 c s))))
 
-  step_holds : Keeps (step_of greatest 1 c m).memory
+  pub step_holds : Keeps (step_of greatest 1 c m).memory
   unfolding step_refused
   step_holds = go (sized? greatest (length c) m.nodes)
     where
@@ -190,7 +191,7 @@ module _ (greatest : ℕ) (c : List ℕ) (m : Memory) where
   landed_last doing depth room NoLanding = refl
   landed_last doing depth room (LandingAt node link run) = bool_cases room (λ q. rw q) (λ q. rw q)
 
-  start_last : (key : ℕ) (doing : Doing) (room : Landing → Bool) → (start_of greatest 1 c m key doing room).memory.last ≡ m.last
+  pub start_last : (key : ℕ) (doing : Doing) (room : Landing → Bool) → (start_of greatest 1 c m key doing room).memory.last ≡ m.last
   unfolding start_of start_checked start_refused has_line
   start_last key doing room =
       bool_cases (eqb (nodes_of_length greatest (length c)) 0) (λ q. rw q) (λ q. bool_cases (eqb (nodes_of_length greatest (length c)) m.nodes)
@@ -206,6 +207,7 @@ untaken_last : (greatest : ℕ) (es : List Event) (w : World (ration_table great
 unfolding NodesUntaken run happens insert_of delete_of
 untaken_last greatest [] w u = (refl, refl)
 untaken_last greatest (ask q ∷ es) w u = untaken_last greatest es w u
+untaken_last greatest (elsewhere x ∷ es) w u = untaken_last greatest es w u.1
 untaken_last greatest (insert key value ∷ es) w u =
     let rest = untaken_last greatest es (happens (ration_table greatest) (insert key value) w) u.1 in
     (rest.0 ∙ start_last greatest w.card w.state key _ _, rest.1 ∙ u.0)
@@ -220,8 +222,9 @@ untaken_last greatest (cut ∷ es) w u = absurd u
 -- where formatting and opening leave it
 begins_there : (greatest : ℕ) (w : World (ration_table greatest)) (l : List (ℕ × ℕ)) → Begins (ration_table greatest) w l → w.state.last ≡ search_start w.card
 unfolding resting
-begins_there greatest w l (from_open c t a k) = accepted_start greatest c a
-begins_there greatest w l (from_format c qs e u r) =
+begins_there greatest w l (from_open c t a has k) = accepted_start greatest c a
+begins_there greatest w l (from_format (two_lines first second) c qs e u r has) = absurd (not_two greatest first second c e)
+begins_there greatest w l (from_format one_line c qs e u r has) =
     let f = fresh_world greatest c qs e u r in
     rw f.1 (sym (format_fresh greatest c (nodes_of_length greatest (length c)) f.0).holds.0)
 

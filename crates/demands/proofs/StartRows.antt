@@ -31,7 +31,6 @@ use Rattle.walk.specs.declared.Landing.{Landing}
 use Rattle.walk.specs.declared.Landing.TheVariants.{Refused as NoLanding, Leaf as LandingAt}
 use Rattle.walk.specs.declared.Slot.{Slot}
 use Rattle.walk.specs.declared.Slot.TheVariants.{At, Absent as NoSlot}
-use Rattle.card_free.specs.NodeSet.{count_true}
 use Rattle.laws.proofs.Cases.{bool_cases, order, impossible}
 use Rattle.laws.specs.Cases.{pick}
 use Rattle.call_start.specs.Starts.{start_depth, start_refused, start_accepted, start_landed, start_checked, start_of, insert_of, delete_of, room_of}
@@ -163,40 +162,40 @@ unfolding at_leaf at_run
 one_leaf c key leaf j leaf' j' e f = (ap at_leaf (sym e ∙ f), ap at_run (sym e ∙ f))
 
 -- an insert has no room exactly by row 8
-pub room_row : (c : List ℕ) (free : List Bool) (key leaf link j : ℕ) → leads_to c key ≡ some (leaf, j)
-    → (NoRoom c free key × (start_room c key (count_true free) (LandingAt leaf link j) ≡ false)) ⊎ ((NoRoom c free key → ⊥) × (start_room c key (count_true free) (LandingAt leaf link j) ≡ true))
+pub room_row : (c : List ℕ) (room : ℕ) (key leaf link j : ℕ) → leads_to c key ≡ some (leaf, j)
+    → (NoRoom c room key × (start_room c key room (LandingAt leaf link j) ≡ false)) ⊎ ((NoRoom c room key → ⊥) × (start_room c key room (LandingAt leaf link j) ≡ true))
 unfolding start_room room_for insert_reason reason_in empty_reason slot_found
-room_row c free key leaf link j to = at (slot_of (node_at c leaf) key) refl (slot_of (node_at c leaf) 0) refl
+room_row c room key leaf link j to = at (slot_of (node_at c leaf) key) refl (slot_of (node_at c leaf) 0) refl
   where
-    same : (r : NoRoom c free key) → (r.0 ≡ leaf) × (r.1 ≡ j)
+    same : (r : NoRoom c room key) → (r.0 ≡ leaf) × (r.1 ≡ j)
     same r = one_leaf c key r.0 r.1 leaf j r.2.leads to
 
     at : (x : Slot) → slot_of (node_at c leaf) key ≡ x → (y : Slot) → slot_of (node_at c leaf) 0 ≡ y
-        → (NoRoom c free key × (start_room c key (count_true free) (LandingAt leaf link j) ≡ false)) ⊎ ((NoRoom c free key → ⊥) × (start_room c key (count_true free) (LandingAt leaf link j) ≡ true))
+        → (NoRoom c room key × (start_room c key room (LandingAt leaf link j) ≡ false)) ⊎ ((NoRoom c room key → ⊥) × (start_room c key room (LandingAt leaf link j) ≡ true))
     at (At i) e y f = inr (λ r. true_false (slot_is (node_at c leaf) key (At i) e ∙ ap (λ (x : ℕ). among key (key_words (node_at c x))) (sym (same r).0) ∙ r.2.absent), rw e)
     at NoSlot e (At i) f = inr (λ r. true_false (slot_is (node_at c leaf) 0 (At i) f ∙ ap (λ (x : ℕ). among 0 (key_words (node_at c x))) (sym (same r).0) ∙ r.2.full), rw (e, f))
     at NoSlot e NoSlot f =
-        order (count_true free) (split_need j)
+        order room (split_need j)
         (λ o. inl (
           (leaf, j, record { leads = to; absent = sym (slot_is (node_at c leaf) key NoSlot e); full = sym (slot_is (node_at c leaf) 0 NoSlot f) }, o),
-          rw (e, f, lt-ltb (count_true free) (split_need j) o),
+          rw (e, f, lt-ltb room (split_need j) o),
         ))
-        (λ o. inr (λ r. omega (arith, r.3, (same r).1), rw (e, f, le-ltb (count_true free) (split_need j) o)))
+        (λ o. inr (λ r. omega (arith, r.3, (same r).1), rw (e, f, le-ltb room (split_need j) o)))
 
 pub inserts : (greatest : ℕ) (c : List ℕ) (m : Memory) (key value : ℕ)
-    → ByRows (start_rows greatest (ration_table greatest) c m key (row 8 (NoRoom c m.free key) end)) (HandsBack (ration_table greatest) m ((ration_table greatest).insert c m key value))
+    → ByRows (start_rows greatest (ration_table greatest) c m key (row 8 (NoRoom c (room_of m) key) end)) (HandsBack (ration_table greatest) m ((ration_table greatest).insert c m key value))
     (Starts (ration_table greatest) m ((ration_table greatest).insert c m key value) (inserting key value false))
 unfolding ByRows insert_of work_of has_begun
 inserts greatest c m key value =
-    by_start greatest c m key (Inserting key value NotBegun) (start_room (seen 1 c) key (room_of m)) (row 8 (NoRoom c m.free key) end)
+    by_start greatest c m key (Inserting key value NotBegun) (start_room (seen 1 c) key (room_of m)) (row 8 (NoRoom c (room_of m) key) end)
     (Starts (ration_table greatest) m (handed (insert_of greatest 1 c m key value)) (inserting key value false))
-    (λ leaf link j to e. at leaf link j e (room_row c m.free key leaf link j to))
+    (λ leaf link j to e. at leaf link j e (room_row c (room_of m) key leaf link j to))
   where
     at : (leaf link j : ℕ) → start_of greatest 1 c m key (Inserting key value NotBegun) (start_room (seen 1 c) key (room_of m))
         ≡ pick (start_room (seen 1 c) key (room_of m) (LandingAt leaf link j)) (start_accepted m (Inserting key value NotBegun) (start_depth 1 c m key)) (start_refused 8 m)
-        → (NoRoom c m.free key × (start_room c key (room_of m) (LandingAt leaf link j) ≡ false)) ⊎ ((NoRoom c m.free key → ⊥) × (start_room c key (room_of m) (LandingAt leaf link j) ≡ true))
-        → (NoRoom c m.free key × HandsBack (ration_table greatest) m (handed (insert_of greatest 1 c m key value)) 8)
-        ⊎ ((NoRoom c m.free key → ⊥) × Starts (ration_table greatest) m (handed (insert_of greatest 1 c m key value)) (inserting key value false))
+        → (NoRoom c (room_of m) key × (start_room c key (room_of m) (LandingAt leaf link j) ≡ false)) ⊎ ((NoRoom c (room_of m) key → ⊥) × (start_room c key (room_of m) (LandingAt leaf link j) ≡ true))
+        → (NoRoom c (room_of m) key × HandsBack (ration_table greatest) m (handed (insert_of greatest 1 c m key value)) 8)
+        ⊎ ((NoRoom c (room_of m) key → ⊥) × Starts (ration_table greatest) m (handed (insert_of greatest 1 c m key value)) (inserting key value false))
     at leaf link j e (inl (r, q)) =
         inl (
           r,

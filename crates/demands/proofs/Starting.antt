@@ -13,7 +13,7 @@ use Rattle.call_start.proofs.StartLaws.{room_seen}
 use Rattle.card.specs.Header.{Sized, header_refusal}
 use Rattle.card.proofs.HeaderLaws.{sized_nodes, formatted_header}
 use Rattle.card.specs.Layout.{lowest_key, key_limit}
-use Rattle.theory_change.proofs.Line.{Line, Partition, only, size, count_only}
+use Rattle.theory_change.proofs.Line.{Line, Partition, size, room_below}
 use Rattle.walk.specs.Descent.{way, landing_of}
 use Rattle.theory_walk.proofs.Landing.{landing_found}
 use Rattle.card_free.specs.NodeSet.{count_true}
@@ -59,7 +59,7 @@ unfolding start_of
 start_checked_lem greatest line c m key doing room s h =
     rw (sized_nodes greatest (length c) m.nodes s, ne_eqb m.nodes 0 (λ z. omega (arith, z, s.least)), eq-eqb m.nodes m.nodes refl, h)
 
-start_busy : (c : List ℕ) (m : Memory) (key : ℕ) (doing : Doing) (room : Landing → Bool) → is_idle m.doing ≡ false → start_checked 1 c m key doing room ≡ start_refused 7 m
+pub start_busy : (c : List ℕ) (m : Memory) (key : ℕ) (doing : Doing) (room : Landing → Bool) → is_idle m.doing ≡ false → start_checked 1 c m key doing room ≡ start_refused 7 m
 unfolding start_checked
 start_busy c m key doing room e = rw e
 
@@ -76,18 +76,18 @@ start_landed_lem c m key doing room number link run e z l one =
     rw (e, ne_eqb key 0 z)
     (ap (λ (x : Landing). start_landed m doing (start_depth 1 c m key) (room x) x) there ∙ ap (start_landed m doing (start_depth 1 c m key) (room (landing c m.nodes key))) l)
 
-is_idle_lem : {doing : Doing} → doing ≡ Idle → is_idle doing ≡ true
+pub is_idle_lem : {doing : Doing} → doing ≡ Idle → is_idle doing ≡ true
 unfolding is_idle
 is_idle_lem e = rw e
 
-landing_is : (c : List ℕ) (n key : ℕ) {x : Landing} → landing_of c (way c n key) ≡ x → landing c n key ≡ x
+pub landing_is : (c : List ℕ) (n key : ℕ) {x : Landing} → landing_of c (way c n key) ≡ x → landing c n key ≡ x
 unfolding landing
 landing_is c n key e = e
 
 -- a state is idle, or some work is in progress
 pub idle_or_busy : {c : List ℕ} {line : Line} {t goal : Tree} {steps : ℕ} {m : Memory} {h : Hand} {due : Answer} → Stage c line t goal steps m h due
     → (m.nodes ≡ line.nodes) × ((is_idle m.doing ≡ false) ⊎ ((free : List Bool) × (last : ℕ)
-    × (m ≡ memory line.nodes free last m.depth m.totals Idle [] []) × (table_violations t ≡ 0) × (size t + 3 ≤ line.limit) × Partition line free t × (bare t ≡ goal)))
+    × (m ≡ memory line.nodes free last m.depth m.totals m.back Idle [] []) × (table_violations t ≡ 0) × (size t + 3 ≤ line.limit) × Partition line free t × (bare t ≡ goal)))
 unfolding is_idle
 idle_or_busy (stage_idle {free} {last} {depth} z r x g) = (refl, inr (free, last, refl, z, r, x, g))
 idle_or_busy (stage_put room z r x low high enough below few g) = (refl, inl refl)
@@ -114,7 +114,7 @@ Goal greatest {line} {steps} {w} {b} i u g =
     × Fresh greatest u g i j
 
 -- a refused start leaves the book as it is
-refused_told : (u : Update) (c : List ℕ) (r : ℕ) (b : Book) → r < 64 → feed (told_of u c (outcome (start_reply (BegunRefused r)))) b ≡ b
+pub refused_told : (u : Update) (c : List ℕ) (r : ℕ) (b : Book) → r < 64 → feed (told_of u c (outcome (start_reply (BegunRefused r)))) b ≡ b
 unfolding start_reply outcome feed fed_start
 refused_told (put key value) c r b h = rw (lt-ltb r 64 h)
 refused_told (remove key) c r b h = rw (lt-ltb r 64 h)
@@ -156,7 +156,8 @@ module _ (greatest : ℕ) {line : Line} {steps : ℕ} {w : World (ration_table g
 
 -- started: the update is in hand, and its answer by the map is due
 put_started : (greatest : ℕ) {line : Line} {steps : ℕ} (w : World (ration_table greatest)) (b : Book) (i : Inv greatest line steps w b) (free : List Bool) (last room key value : ℕ)
-    → w.state ≡ memory line.nodes free last w.state.depth w.state.totals Idle [] [] → table_violations i.tree ≡ 0 → size i.tree + 3 ≤ line.limit → Partition line free i.tree
+    → w.state ≡ memory line.nodes free last w.state.depth w.state.totals w.state.back Idle [] []
+    → table_violations i.tree ≡ 0 → size i.tree + 3 ≤ line.limit → Partition line free i.tree
     → bare i.tree ≡ i.goal → lowest_key ≤ key → key < key_limit
     → start_room w.card key room (landing w.card w.state.nodes key) ≡ true → size i.tree + room ≤ line.limit → (depth : ℕ)
     → Goal greatest i (put key value) (start_accepted w.state (Inserting key value NotBegun) depth)
@@ -172,6 +173,7 @@ put_started greatest {line} w b i free last room key value em z r x eg low high 
         openable = i.openable;
         same = i.same;
         apart = i.apart;
+        reserved = i.reserved;
         counted = i.counted;
         stage = rw em (stage_put {free = free} {last = last} room z r x low high q' below (enough_steps greatest i) (ap (after_shape (put key value)) eg));
       },
@@ -185,7 +187,8 @@ put_started greatest {line} w b i free last room key value em z r x eg low high 
     )
 
 remove_started : (greatest : ℕ) {line : Line} {steps : ℕ} (w : World (ration_table greatest)) (b : Book) (i : Inv greatest line steps w b) (free : List Bool) (last key : ℕ)
-    → w.state ≡ memory line.nodes free last w.state.depth w.state.totals Idle [] [] → table_violations i.tree ≡ 0 → size i.tree + 3 ≤ line.limit → Partition line free i.tree
+    → w.state ≡ memory line.nodes free last w.state.depth w.state.totals w.state.back Idle [] []
+    → table_violations i.tree ≡ 0 → size i.tree + 3 ≤ line.limit → Partition line free i.tree
     → bare i.tree ≡ i.goal → lowest_key ≤ key → key < key_limit
     → (depth : ℕ) → Goal greatest i (remove key) (start_accepted w.state (Deleting key NotBegun 0) depth)
 unfolding start_accepted start_reply outcome feed fed_start is_idle
@@ -199,6 +202,7 @@ remove_started greatest w b i free last key em z r x eg low high depth = (
     openable = i.openable;
     same = i.same;
     apart = i.apart;
+    reserved = i.reserved;
     counted = i.counted;
     stage = rw em (stage_remove {free = free} {last = last} z r x low high (enough_steps greatest i) (ap (after_shape (remove key)) eg));
   },
@@ -238,7 +242,7 @@ module _ (greatest : ℕ) (line : Line) (steps : ℕ) (w : World (ration_table g
       (seen_only w.card line.nodes (omega (arith, i.table.sized.words)) i.table.header)
 
   start_with : (key : ℕ) (doing : Doing) (room : Landing → Bool) (u : Update) → key < key_limit
-      → ((free : List Bool) (last : ℕ) → w.state ≡ memory line.nodes free last w.state.depth w.state.totals Idle [] []
+      → ((free : List Bool) (last : ℕ) → w.state ≡ memory line.nodes free last w.state.depth w.state.totals w.state.back Idle [] []
       → table_violations i.tree ≡ 0 → size i.tree + 3 ≤ line.limit → Partition line free i.tree → bare i.tree ≡ i.goal → lowest_key ≤ key
       → room (landing w.card w.state.nodes key) ≡ true → Goal greatest i u (start_accepted w.state doing (start_depth 1 w.card w.state key)))
       → Goal greatest i u (start_of greatest 1 w.card w.state key doing room)
@@ -247,7 +251,7 @@ module _ (greatest : ℕ) (line : Line) (steps : ℕ) (w : World (ration_table g
       refused_with : (r : ℕ) → r < 64 → start_of greatest 1 w.card w.state key doing room ≡ start_refused r w.state → Goal greatest i u (start_of greatest 1 w.card w.state key doing room)
       refused_with r h e = subst (Goal greatest i u) (sym e) (refused_goal greatest w b i u r h)
 
-      go : (is_idle w.state.doing ≡ false) ⊎ ((free : List Bool) × (last : ℕ) × (w.state ≡ memory line.nodes free last w.state.depth w.state.totals Idle [] [])
+      go : (is_idle w.state.doing ≡ false) ⊎ ((free : List Bool) × (last : ℕ) × (w.state ≡ memory line.nodes free last w.state.depth w.state.totals w.state.back Idle [] [])
           × (table_violations i.tree ≡ 0) × (size i.tree + 3 ≤ line.limit) × Partition line free i.tree × (bare i.tree ≡ i.goal))
           → Goal greatest i u (start_of greatest 1 w.card w.state key doing room)
       go (inl q) = refused_with 7 (omega arith) (passed key doing room ∙ start_busy w.card w.state key doing room q)
@@ -261,13 +265,22 @@ module _ (greatest : ℕ) (line : Line) (steps : ℕ) (w : World (ration_table g
           idle : w.state.doing ≡ Idle
           idle = ap (λ (y : Memory). y.doing) em
 
-  -- an insert that goes by so many free nodes, which are no more than the limit leaves
-  pub started_insert : (room key value : ℕ) → key < key_limit → ((free : List Bool) → w.state.free ≡ free → Partition line free i.tree → size i.tree + room ≤ line.limit)
-      → Goal greatest i (put key value) (start_of greatest 1 w.card w.state key (Inserting key value NotBegun) (start_room (seen 1 w.card) key room))
-  started_insert room key value high below =
-      start_with key (Inserting key value NotBegun) (start_room (seen 1 w.card) key room) (put key value) high
-      (λ free last em z r x eg low q. put_started greatest w b i free last room key value em z r x eg low high (sym (room_seen 1 w.card key room _) ∙ q)
-      (below free (ap (λ (y : Memory). y.free) em) x) (start_depth 1 w.card w.state key))
+  -- an insert, by the room that the limit leaves
+  pub started_insert : (key value : ℕ) → key < key_limit
+      → Goal greatest i (put key value) (start_of greatest 1 w.card w.state key (Inserting key value NotBegun) (start_room (seen 1 w.card) key (room_of w.state)))
+  started_insert key value high =
+      start_with key (Inserting key value NotBegun) (start_room (seen 1 w.card) key (room_of w.state)) (put key value) high
+      (λ free last em z r x eg low q. put_started greatest w b i free last (room_of w.state) key value em z r x eg low high
+      (sym (room_seen 1 w.card key (room_of w.state) _) ∙ q) (below free em x r) (start_depth 1 w.card w.state key))
+    where
+      below : (free : List Bool) {last : ℕ} → w.state ≡ memory line.nodes free last w.state.depth w.state.totals w.state.back Idle [] []
+          → Partition line free i.tree → size i.tree + 3 ≤ line.limit → size i.tree + room_of w.state ≤ line.limit
+      below free em x r =
+          omega (
+            arith,
+            room_below line free i.tree x w.state.back i.reserved (omega (arith, i.table.sized.most)) (omega (arith, r)),
+            ap (λ (y : Memory). count_true y.free) em,
+          )
 
   -- a delete, which needs none
   pub started_delete : (key : ℕ) → key < key_limit → Goal greatest i (remove key) (start_of greatest 1 w.card w.state key (Deleting key NotBegun 0) (λ l. true))
@@ -275,17 +288,15 @@ module _ (greatest : ℕ) (line : Line) (steps : ℕ) (w : World (ration_table g
       start_with key (Deleting key NotBegun 0) (λ l. true) (remove key) high
       (λ free last em z r x eg low q. remove_started greatest w b i free last key em z r x eg low high (start_depth 1 w.card w.state key))
 
+  -- "Starting an update stores nothing."
+  pub kept_insert : (key value : ℕ) → key < key_limit
+      → (k : ℕ) × (j : Inv greatest line k (happens (ration_table greatest) (insert key value) w) (feed (told (ration_table greatest) (insert key value) w) b))
+      × Fresh greatest (put key value) (insert_of greatest 1 w.card w.state key value) i j
+  unfolding happens told reply_to insert_of
+  kept_insert key value high = started_insert key value high
+
   pub kept_delete : (key : ℕ) → key < key_limit
       → (k : ℕ) × (j : Inv greatest line k (happens (ration_table greatest) (delete key) w) (feed (told (ration_table greatest) (delete key) w) b))
       × Fresh greatest (remove key) (delete_of greatest 1 w.card w.state key) i j
   unfolding happens told reply_to delete_of
   kept_delete key high = started_delete key high
-
--- "Starting an update stores nothing": on a card with one line an insert goes by the free bits
-pub kept_insert : (greatest n steps : ℕ) (w : World (ration_table greatest)) (b : Book) (i : Inv greatest (only n) steps w b) (key value : ℕ) → key < key_limit
-    → (k : ℕ) × (j : Inv greatest (only n) k (happens (ration_table greatest) (insert key value) w) (feed (told (ration_table greatest) (insert key value) w) b))
-    × Fresh greatest (put key value) (insert_of greatest 1 w.card w.state key value) i j
-unfolding happens told reply_to insert_of
-kept_insert greatest n steps w b i key value high =
-    started_insert greatest (only n) steps w b i (room_of w.state) key value high
-    (λ free e x. omega (arith, count_only n free i.tree x (omega (arith, i.table.sized.most)), ap count_true e))

@@ -7,13 +7,13 @@ use Prim.Native.Nat.{ℕ, suc, ◌+◌, ◌*◌, ◌≤◌, ◌<◌}
 use native.Mathlib.Omega.{arith}
 use lib.ListN.{length, set, get_or, length-append}
 use Rattle.card.specs.Layout.{lowest_key, key_limit, depth_limit, place, node_at, slot_pairs, leaf_pairs}
-use Rattle.card.specs.Stores.{Store, node_stores}
+use Rattle.card.specs.Stores.{Store, stores, node_stores}
 use Rattle.change_plan.specs.Change.{split_leaf}
 use Rattle.change_plan.specs.Planning.{Preparation, take_numbers, without_all, last_of, giving, first, second, third, balanced, prepared}
 use Rattle.change_plan.proofs.NumberLaws.{giving_some}
 use Rattle.change_layout.specs.Mending.{next_repair}
 use Rattle.change_layout.proofs.Mending.{repair_balanced}
-use Rattle.theory_change.proofs.Line.{Line, Partition, size, room_in_bits, zero_taken, Apart}
+use Rattle.theory_change.proofs.Line.{Line, Partition, size, room_in_bits, zero_taken, Apart, Reserved}
 use Rattle.theory_change.proofs.LeafSplit.{with_pair, split_nodes, split_change}
 use Rattle.theory_change.proofs.Mended.{change_stores_lem, mended}
 use Rattle.theory_change.proofs.Mending.{rewrite_at, giving_same}
@@ -54,6 +54,7 @@ use Rattle.demands.proofs.Slots.{slot_holds, slots_full}
 use Rattle.demands.proofs.Steps.{memory, Busy, job_busy, step_idle, step_stores, prepared_ready, prepared_first, step_repairs, step_puts, step_removes}
 use Rattle.demands.proofs.Work.{settled_idle}
 use Rattle.theory_check.proofs.Depth.{table_depth}
+use Rattle.theory_check.proofs.Found.{found}
 use Rattle.state.specs.Steps.{Step, step_refused, is_idle}
 use Rattle.call_step.specs.Calls.{step_prepared, step_of}
 use Rattle.state.specs.Memory.{Memory, idled, advanced}
@@ -107,11 +108,11 @@ pub data Moves (line : Line) (c : List ℕ) (m : Memory) (s : Step) : Type 0 whe
   goes_further : OwnStore line c s → is_idle s.memory.doing ≡ false → Moves line c m s
 
 -- a store leaves the work in hand
-busy_after : {doing : Doing} (n : ℕ) (free : List Bool) (last depth : ℕ) (totals : List ℕ) (z : List Store) (cut : List ℕ) → Busy doing → (rest : List Store)
-    → is_idle (advanced (memory n free last depth totals doing z cut) rest).doing ≡ false
+busy_after : {doing : Doing} (n : ℕ) (free : List Bool) (last depth : ℕ) (totals : List ℕ) (back : ℕ) (z : List Store) (cut : List ℕ) → Busy doing → (rest : List Store)
+    → is_idle (advanced (memory n free last depth totals back doing z cut) rest).doing ≡ false
 unfolding advanced
-busy_after {doing} n free last depth totals z cut b [] = settled_idle doing ∙ b.not_idle
-busy_after n free last depth totals z cut b (s ∷ rest) = b.not_idle
+busy_after {doing} n free last depth totals back z cut b [] = settled_idle doing ∙ b.not_idle
+busy_after n free last depth totals back z cut b (s ∷ rest) = b.not_idle
 
 -- the answer is the one due, or none: a store, or the refusal of an idle state
 pub data Right : Answer → Answer → Type 0 where
@@ -144,13 +145,13 @@ module _ (greatest : ℕ) (line : Line) (steps : ℕ) (c : List ℕ) (t : Tree) 
       → Toward greatest goal due line steps (record { card = c; state = m' }) (fed_step final l h) → Right a due → Goal m h due
   final_goal m m' a h due e idle f i r = rw (e, final_told a f) (i, r, ends_now f refl idle)
 
-  module _ (totals : List ℕ) (counted : Totals totals (pairs t)) where
+  module _ (totals : List ℕ) (counted : Totals totals (pairs t)) (back : ℕ) (reserved : Reserved line back) where
     -- the state idle again
     idle_inv : (due : Answer) (free : List Bool) (last depth : ℕ) (l' : List (ℕ × ℕ)) → Same (pairs t) l'
         → table_violations t ≡ 0 → size t + 3 ≤ line.limit → Partition line free t → bare t ≡ goal
-        → Toward greatest goal due line steps (record { card = c; state = memory line.nodes free last depth totals Idle [] [] }) (book l' empty)
+        → Toward greatest goal due line steps (record { card = c; state = memory line.nodes free last depth totals back Idle [] [] }) (book l' empty)
     idle_inv due free last depth l' s z r x eg = (
-      record { tree = t; goal = goal; due = due; table = b; openable = o; same = s; apart = apart; counted = counted; stage = stage_idle z r x eg },
+      record { tree = t; goal = goal; due = due; table = b; openable = o; same = s; apart = apart; reserved = reserved; counted = counted; stage = stage_idle z r x eg },
       refl,
       refl,
     )
@@ -158,12 +159,13 @@ module _ (greatest : ℕ) (line : Line) (steps : ℕ) (c : List ℕ) (t : Tree) 
     -- a repair that has nothing left to do gives its final answer
     ended : {doing : Doing} {key : ℕ} {due : Answer} {u : Option Update} {h : Hand} (free : List Bool) (last depth : ℕ)
         → Job Decided doing key due u → Entered u h → table_violations t ≡ 0 → size t + 3 ≤ line.limit → Partition line free t → bare t ≡ goal
-        → Goal (memory line.nodes free last depth totals doing [] []) h due
+        → Goal (memory line.nodes free last depth totals back doing [] []) h due
     unfolding idled outcome step_reply fed_step
     ended {doing} {key} {due} {u} {h} free last depth j en z r x eg =
-        final_goal (memory line.nodes free last depth totals doing [] []) (memory line.nodes free last depth totals Idle [] []) due h due
-        (step_repairs greatest c line.nodes b.sized b.header free last depth totals j
-        ∙ prepared_ready c (memory line.nodes free last depth totals doing [] []) doing due (next_repair c line.nodes key free last) (rests greatest c line.nodes key t free last b z)) refl
+        final_goal (memory line.nodes free last depth totals back doing [] []) (memory line.nodes free last depth totals back Idle [] []) due h due
+        (step_repairs greatest c line.nodes b.sized b.header free last depth totals back j
+        ∙ prepared_ready c (memory line.nodes free last depth totals back doing [] []) doing due
+        (next_repair c line.nodes key free last) (rests greatest c line.nodes key t free last b z)) refl
         (is_final j) (entered_inv en) final_answer
       where
         is_final : {doing : Doing} {key : ℕ} {due : Answer} {u : Option Update} → Job Decided doing key due u → IsFinal due
@@ -172,7 +174,7 @@ module _ (greatest : ℕ) (line : Line) (steps : ℕ) (c : List ℕ) (t : Tree) 
         is_final (job_delete p) = tt
 
         entered_inv : {u : Option Update} {h : Hand} → Entered u h
-            → Toward greatest goal due line steps (record { card = c; state = memory line.nodes free last depth totals Idle [] [] }) (fed_step final l h)
+            → Toward greatest goal due line steps (record { card = c; state = memory line.nodes free last depth totals back Idle [] [] }) (fed_step final l h)
         entered_inv no_update = idle_inv due free last depth l same z r x eg
         entered_inv (updated {deciding = deciding} {count = count} e) = rw (le-ltb count deciding e) (idle_inv due free last depth l same z r x eg)
 
@@ -189,37 +191,37 @@ module _ (greatest : ℕ) (line : Line) (steps : ℕ) (c : List ℕ) (t : Tree) 
     -- a repair that goes on
     repaired : {doing : Doing} {key : ℕ} {due : Answer} {u : Option Update} {h : Hand} (free : List Bool) (last depth deep : ℕ) → Job Decided
         doing key due u → Entered u h → Mendable key line.limit t deep → Partition line free t → 73 * deep + 1 ≤ suc steps → Heads deep (bare t) goal
-        → Goal (memory line.nodes free last depth totals doing [] []) h due
+        → Goal (memory line.nodes free last depth totals back doing [] []) h due
     repaired free last depth deep j en (settled z r) x few hd = ended free last depth j en z r x (heads_done hd (bare_table_violations t ∙ z))
     repaired {doing} {key} {due} {u} {h} free last depth deep j en (violated v w r) x few hd = apply (mends greatest c line key t free last b x v w r)
       where
-        apply : Repaired c line key t free last (depth_of v.context) → Goal (memory line.nodes free last depth totals doing [] []) h due
+        apply : Repaired c line key t free last (depth_of v.context) → Goal (memory line.nodes free last depth totals back doing [] []) h due
         apply q = split q.stores refl
           where
-            split : (s : List Store) → q.stores ≡ s → Goal (memory line.nodes free last depth totals doing [] []) h due
+            split : (s : List Store) → q.stores ≡ s → Goal (memory line.nodes free last depth totals back doing [] []) h due
             split [] e = let z = ap length (sym e ∙ q.pending.is_rest) in absurd (omega (arith, simp length-append at z))
             split (s ∷ rest) e =
                 let k : next_repair c line.nodes key free last ≡ prepared (s ∷ rest) q.free_then q.last_then q.cut = rw e at q.planned in
                 let short : suc (length rest) ≤ 73 = rw e at q.short in
                 let p = pending_changing b.holds b.sound o (rw e at q.pending) in
                 let g = entered_on en in
-                stored_goal (memory line.nodes free last depth totals doing [] []) _ s.0 s.1 h due (first_storable p.0.plays)
-                (step_repairs greatest c line.nodes b.sized b.header free last depth totals j ∙ prepared_first c (memory line.nodes free last depth totals doing [] []) doing due
+                stored_goal (memory line.nodes free last depth totals back doing [] []) _ s.0 s.1 h due (first_storable p.0.plays)
+                (step_repairs greatest c line.nodes b.sized b.header free last depth totals back j ∙ prepared_first c (memory line.nodes free last depth totals back doing [] []) doing due
                 (next_repair c line.nodes key free last) s rest q.free_then q.last_then q.cut k (first_storable p.0.plays).inside)
-                (busy_after line.nodes q.free_then q.last_then depth totals [] q.cut (job_busy j) rest)
-                (rw g.1 (repair_stored greatest q.last_then depth steps totals [] l b same counted apart j g.2 p.0 (record { totals = p.1 }) (omega (arith, p.2))
+                (busy_after line.nodes q.free_then q.last_then depth totals back [] q.cut (job_busy j) rest)
+                (rw g.1 (repair_stored greatest q.last_then depth steps totals back [] l b same counted apart reserved j g.2 p.0 (record { totals = p.1 }) (omega (arith, p.2))
                 (heads_on p.0.level (bare p.0.next) hd (bare_table_violations t ∙ w) p.2 p.3)))
 
     -- the first store of an update's first change
-    begins : {doing : Doing} {key : ℕ} {due : Answer} {u : Update} (d : ℕ) (m : Memory) → Totals m.totals (pairs t)
+    begins : {doing : Doing} {key : ℕ} {due : Answer} {u : Update} (d : ℕ) (m : Memory) → Totals m.totals (pairs t) → Reserved line m.back
         → (s : Store) (rest : List Store) (free : List Bool) (last : ℕ) (cut : List ℕ) → Job InHand doing key due (some u)
-        → step_of greatest 1 c m ≡ record { answer = Stored s.0; card = set c s.0 s.1; memory = advanced (memory line.nodes free last m.depth m.totals doing [] cut) rest }
+        → step_of greatest 1 c m ≡ record { answer = Stored s.0; card = set c s.0 s.1; memory = advanced (memory line.nodes free last m.depth m.totals m.back doing [] cut) rest }
         → (p : Changing c line key t (s ∷ rest) free cut) → Changes u (pairs t) (pairs p.next) → suc (length rest) ≡ d
         → length rest + (73 * p.level + 1) ≤ steps → Heads p.level (bare p.next) goal → Goal m (holding u d 0) due
-    begins {due = due} {u = u} d m k s rest free last cut j e p en count few hd =
+    begins {due = due} {u = u} d m k v s rest free last cut j e p en count few hd =
         let q : 0 + suc (length rest) ≡ d = omega arith in
-        stored_goal m _ s.0 s.1 (holding u d 0) due (first_storable p.plays) e (busy_after line.nodes free last m.depth m.totals [] cut (job_busy j) rest)
-        (update_stored greatest d 0 last m.depth steps m.totals [] l b same k apart j p en q few hd)
+        stored_goal m _ s.0 s.1 (holding u d 0) due (first_storable p.plays) e (busy_after line.nodes free last m.depth m.totals m.back [] cut (job_busy j) rest)
+        (update_stored greatest d 0 last m.depth steps m.totals m.back [] l b same k apart v j p en q few hd)
 
     -- the leaf that a key leads to
     lands : (key : ℕ) → lowest_key ≤ key → key < key_limit → LandedAt c line.nodes key t
@@ -266,15 +268,15 @@ module _ (greatest : ℕ) (line : Line) (steps : ℕ) (c : List ℕ) (t : Tree) 
     -- "Insert, key held: answers the held value, no store."
     put_answers : (free : List Bool) (last depth key value i : ℕ) → table_violations t ≡ 0 → size t + 3 ≤ line.limit → Partition line free t
         → (g : LandedAt c line.nodes key t) → slot_of (node_at c g.number) key ≡ At i → (full : Bool) → after_shape (put key value) (bare t) ≡ goal
-        → Goal (memory line.nodes free last depth totals (Inserting key value NotBegun) [] []) (taken_up (an_insert key value goes_on full)) (dictionary_answer (lookup key (pairs t)))
+        → Goal (memory line.nodes free last depth totals back (Inserting key value NotBegun) [] []) (taken_up (an_insert key value goes_on full)) (dictionary_answer (lookup key (pairs t)))
     unfolding idled outcome step_reply fed_step slot_answer dictionary_answer
     put_answers free last depth key value i z r x g e full eg =
-        let m = memory line.nodes free last depth totals (Inserting key value NotBegun) [] [] in
+        let m = memory line.nodes free last depth totals back (Inserting key value NotBegun) [] [] in
         let v = get_or (node_at c g.number) (12 + i) 0 in
         let found : lookup key (pairs t) ≡ some (get_or (node_at c g.number) (12 + i) 0) = sym g.answers ∙ ap (slot_answer (node_at c g.number)) e in
-        final_goal (memory line.nodes free last depth totals (Inserting key value NotBegun) [] []) (memory line.nodes free last depth totals Idle [] []) (Value v)
+        final_goal (memory line.nodes free last depth totals back (Inserting key value NotBegun) [] []) (memory line.nodes free last depth totals back Idle [] []) (Value v)
         (taken_up (an_insert key value goes_on full)) (dictionary_answer (lookup key (pairs t)))
-        (step_puts greatest c line.nodes b.sized b.header free last depth totals key value ∙ put_held greatest c line.nodes key g.number (link_place g.context)
+        (step_puts greatest c line.nodes b.sized b.header free last depth totals back key value ∙ put_held greatest c line.nodes key g.number (link_place g.context)
         (full_run g.context) (landed key g) value free last m i e ∙ prepared_ready c m (Inserting key value InHand) (Value v) balanced refl)
         refl tt
         (rw (entered_at_end key value full) (idle_inv _ free last depth (entered (put key value) l)
@@ -286,14 +288,14 @@ module _ (greatest : ℕ) (line : Line) (steps : ℕ) (c : List ℕ) (t : Tree) 
         held_positive k v ps q = order 0 (total (has_key k) ps) (λ a. a) (λ a. absurd (none-ne-some v (sym (lookup_none k ps (omega arith)) ∙ q)))
 
     -- the first change is planned, and its first store made
-    first_made : {doing : Doing} {key : ℕ} {due : Answer} {u : Update} (d : ℕ) (m : Memory) → Totals m.totals (pairs t) → (prep : Preparation) (s : Store)
+    first_made : {doing : Doing} {key : ℕ} {due : Answer} {u : Update} (d : ℕ) (m : Memory) → Totals m.totals (pairs t) → Reserved line m.back → (prep : Preparation) (s : Store)
         (rest : List Store) (free : List Bool) (last : ℕ) (cut : List ℕ) (deep : ℕ) → m.nodes ≡ line.nodes → Job InHand doing key due (some u)
         → step_of greatest 1 c m ≡ step_prepared c m doing due prep → prep ≡ prepared (s ∷ rest) free last cut
         → First c line key t (s ∷ rest) free cut u deep → suc (length rest) ≡ d → length rest + (73 * deep + 1) ≤ steps → deep ≤ depth_limit
         → settled_by depth_limit (first_shape u (bare t)) ≡ goal → Goal m (holding u d 0) due
-    first_made {doing} {key} {due} {u} d m k prep s rest free last cut deep en j e e₁ p count few lim eg =
+    first_made {doing} {key} {due} {u} d m k v prep s rest free last cut deep en j e e₁ p count few lim eg =
         let q = p.shallow in
-        begins d m k s rest free last cut j
+        begins d m k v s rest free last cut j
         (e ∙ prepared_first c m doing due prep s rest free last cut e₁ (first_storable p.changing.plays).inside ∙ rw en) p.changing p.enters count (omega arith)
         (record { repairs = depth_limit; enough = omega arith; reaches = ap (settled_by depth_limit) p.shaped ∙ eg })
 
@@ -301,10 +303,10 @@ module _ (greatest : ℕ) (line : Line) (steps : ℕ) (c : List ℕ) (t : Tree) 
     put_into_slot : (free : List Bool) (last depth key value i : ℕ) → table_violations t ≡ 0
         → size t + 3 ≤ line.limit → Partition line free t → lowest_key ≤ key → key < key_limit → UpdateSteps t (suc steps) → (g : LandedAt c line.nodes key t)
         → slot_of (node_at c g.number) key ≡ NoSlot → slot_of (node_at c g.number) 0 ≡ At i → after_shape (put key value) (bare t) ≡ goal
-        → Goal (memory line.nodes free last depth totals (Inserting key value NotBegun) [] []) (taken_up (told_of (put key value) c goes_on)) (dictionary_answer (lookup key (pairs t)))
+        → Goal (memory line.nodes free last depth totals back (Inserting key value NotBegun) [] []) (taken_up (told_of (put key value) c goes_on)) (dictionary_answer (lookup key (pairs t)))
     unfolding slot_answer dictionary_answer feed fed_start
     put_into_slot free last depth key value i z r x low high few g e e₀ eg =
-        let m = memory line.nodes free last depth totals (Inserting key value NotBegun) [] [] in
+        let m = memory line.nodes free last depth totals back (Inserting key value NotBegun) [] [] in
         let none_there : lookup key (pairs t) ≡ none = sym g.answers ∙ ap (slot_answer (node_at c g.number)) e in
         let words = read_length c g.number 1 g.keys g.values g.on_card_lem.0 in
         let s = slot_holds (node_at c g.number) 0 i words e₀ in
@@ -318,8 +320,8 @@ module _ (greatest : ℕ) (line : Line) (steps : ℕ) (c : List ℕ) (t : Tree) 
         at_slot g.context g.number g.keys g.values i (rw is b.holds)
         (rw is b.sound) (rw is z) (rw is x) (rw is r) g.leads low high value s.0 empty_slot (rw is none_held) (row_slot key 0 g ∙ e₀) in
         rw (none_there, flag)
-        (first_made _ m counted _ (place g.number (12 + i), value) ((place g.number (1 + i), key) ∷ []) free last [] (depth_of g.context) refl (job_insert in_hand_lem)
-        (step_puts greatest c line.nodes b.sized b.header free last depth totals key value
+        (first_made _ m counted reserved _ (place g.number (12 + i), value) ((place g.number (1 + i), key) ∷ []) free last [] (depth_of g.context) refl (job_insert in_hand_lem)
+        (step_puts greatest c line.nodes b.sized b.header free last depth totals back key value
         ∙ put_slot greatest c line.nodes key g.number (link_place g.context) (full_run g.context) (landed key g) value free last m i e e₀) refl
         (rw is at p) refl (omega arith) (way_limited key g) (goal_put key value none_there eg))
       where
@@ -340,10 +342,10 @@ module _ (greatest : ℕ) (line : Line) (steps : ℕ) (c : List ℕ) (t : Tree) 
     remove_from_slot : (free : List Bool) (last depth key i : ℕ) → table_violations t ≡ 0
         → size t + 3 ≤ line.limit → Partition line free t → lowest_key ≤ key → key < key_limit → UpdateSteps t (suc steps) → (g : LandedAt c line.nodes key t)
         → slot_of (node_at c g.number) key ≡ At i → after_shape (remove key) (bare t) ≡ goal
-        → Goal (memory line.nodes free last depth totals (Deleting key NotBegun 0) [] []) (taken_up (told_of (remove key) c goes_on)) (dictionary_answer (lookup key (pairs t)))
+        → Goal (memory line.nodes free last depth totals back (Deleting key NotBegun 0) [] []) (taken_up (told_of (remove key) c goes_on)) (dictionary_answer (lookup key (pairs t)))
     unfolding slot_answer dictionary_answer feed fed_start
     remove_from_slot free last depth key i z r x low high few g e eg =
-        let m = memory line.nodes free last depth totals (Deleting key NotBegun 0) [] [] in
+        let m = memory line.nodes free last depth totals back (Deleting key NotBegun 0) [] [] in
         let found : lookup key (pairs t) ≡ some (get_or (node_at c g.number) (12 + i) 0) = sym g.answers ∙ ap (slot_answer (node_at c g.number)) e in
         let words = read_length c g.number 1 g.keys g.values g.on_card_lem.0 in
         let s = slot_holds (node_at c g.number) key i words e in
@@ -353,8 +355,8 @@ module _ (greatest : ℕ) (line : Line) (steps : ℕ) (c : List ℕ) (t : Tree) 
         let p : First c line key (plug g.context (leaf g.number g.keys g.values)) ((place g.number (1 + i), 0) ∷ []) free [] (remove key) (depth_of g.context) =
         at_slot g.context g.number g.keys g.values (rw is b.holds) (rw is b.sound) (rw is z) (rw is x) (rw is r) g.leads low high s.0 held_slot (row_slot key key g ∙ e) in
         rw found
-        (first_made _ m counted _ (place g.number (1 + i), 0) [] free last [] (depth_of g.context) refl (job_delete in_hand_lem)
-        (step_removes greatest c line.nodes b.sized b.header free last depth totals key
+        (first_made _ m counted reserved _ (place g.number (1 + i), 0) [] free last [] (depth_of g.context) refl (job_delete in_hand_lem)
+        (step_removes greatest c line.nodes b.sized b.header free last depth totals back key
         ∙ remove_held greatest c line.nodes key g.number (link_place g.context) (full_run g.context) (landed key g) 0 free last m i e) refl
         (rw is at p) refl (omega arith) (way_limited key g) (goal_remove key (get_or (node_at c g.number) (12 + i) 0) found eg))
       where
@@ -373,14 +375,14 @@ module _ (greatest : ℕ) (line : Line) (steps : ℕ) (c : List ℕ) (t : Tree) 
     -- "absent and no store if not held"
     remove_answers : (free : List Bool) (last depth key : ℕ) → table_violations t ≡ 0 → size t + 3 ≤ line.limit → Partition line free t
         → (g : LandedAt c line.nodes key t) → slot_of (node_at c g.number) key ≡ NoSlot → after_shape (remove key) (bare t) ≡ goal
-        → Goal (memory line.nodes free last depth totals (Deleting key NotBegun 0) [] []) (taken_up (told_of (remove key) c goes_on)) (dictionary_answer (lookup key (pairs t)))
+        → Goal (memory line.nodes free last depth totals back (Deleting key NotBegun 0) [] []) (taken_up (told_of (remove key) c goes_on)) (dictionary_answer (lookup key (pairs t)))
     unfolding idled outcome step_reply fed_step slot_answer dictionary_answer feed fed_start
     remove_answers free last depth key z r x g e eg =
-        let m = memory line.nodes free last depth totals (Deleting key NotBegun 0) [] [] in
+        let m = memory line.nodes free last depth totals back (Deleting key NotBegun 0) [] [] in
         let none_there : lookup key (pairs t) ≡ none = sym g.answers ∙ ap (slot_answer (node_at c g.number)) e in
-        final_goal (memory line.nodes free last depth totals (Deleting key NotBegun 0) [] []) (memory line.nodes free last depth totals Idle [] []) Absent
+        final_goal (memory line.nodes free last depth totals back (Deleting key NotBegun 0) [] []) (memory line.nodes free last depth totals back Idle [] []) Absent
         (taken_up (told_of (remove key) c goes_on)) (dictionary_answer (lookup key (pairs t)))
-        (step_removes greatest c line.nodes b.sized b.header free last depth totals key ∙ remove_absent greatest c line.nodes key g.number (link_place g.context)
+        (step_removes greatest c line.nodes b.sized b.header free last depth totals back key ∙ remove_absent greatest c line.nodes key g.number (link_place g.context)
         (full_run g.context) (landed key g) 0 free last m e ∙ prepared_ready c m (Deleting key InHand 0) Absent balanced refl)
         refl tt
         (idle_inv _ free last depth (entered (remove key) l) ((enters_gone key (pairs t) (absent_counted key (pairs t) none_there)).to l same) z r x (goal_absent key none_there eg))
@@ -390,7 +392,7 @@ module _ (greatest : ℕ) (line : Line) (steps : ℕ) (c : List ℕ) (t : Tree) 
     put_by_split : (free : List Bool) (last depth key value : ℕ) → table_violations t ≡ 0 → size t + 3 ≤ line.limit → Partition line free t → lowest_key ≤ key
         → key < key_limit → UpdateSteps t (suc steps) → (room : ℕ) → start_room c key room (landing c line.nodes key) ≡ true → size t + room ≤ line.limit → (g : LandedAt c line.nodes key t)
         → slot_of (node_at c g.number) key ≡ NoSlot → slot_of (node_at c g.number) 0 ≡ NoSlot → after_shape (put key value) (bare t) ≡ goal
-        → Goal (memory line.nodes free last depth totals (Inserting key value NotBegun) [] []) (taken_up (told_of (put key value) c goes_on)) (dictionary_answer (lookup key (pairs t)))
+        → Goal (memory line.nodes free last depth totals back (Inserting key value NotBegun) [] []) (taken_up (told_of (put key value) c goes_on)) (dictionary_answer (lookup key (pairs t)))
     unfolding slot_answer dictionary_answer feed fed_start
     put_by_split free last depth key value z r x low high few room enough below g e e₀ eg =
         let none_there : lookup key (pairs t) ≡ none = sym g.answers ∙ ap (slot_answer (node_at c g.number)) e in
@@ -420,7 +422,7 @@ module _ (greatest : ℕ) (line : Line) (steps : ℕ) (c : List ℕ) (t : Tree) 
         go : ((ms : List ℕ) × (take_numbers 3 free last ≡ some ms) × (length ms ≡ 3) × Given free ms) → 73 + 73 * depth_of g.context ≤ steps
             → length (slot_pairs g.keys g.values) ≡ 11 → size t + split_need (full_run g.context) ≤ line.limit
             → total (has_key key) (pairs t) ≡ 0 → settled_by depth_limit (first_shape (put key value) (bare t)) ≡ goal
-            → Goal (memory line.nodes free last depth totals (Inserting key value NotBegun) [] []) (taken_up (an_insert key value goes_on true)) Absent
+            → Goal (memory line.nodes free last depth totals back (Inserting key value NotBegun) [] []) (taken_up (an_insert key value goes_on true)) Absent
         go (ms, e₁, three, gv) way eleven spare none_held reach = split (stores ms) refl
           where
             p : First c line key (plug g.context (leaf g.number g.keys g.values)) (stores ms) (without_all ms free) (g.number ∷ []) (put key value) (depth_of g.context)
@@ -449,73 +451,74 @@ module _ (greatest : ℕ) (line : Line) (steps : ℕ) (c : List ℕ) (t : Tree) 
                 (rw g.is_tree b.sound) (rw g.is_tree z) (rw g.is_tree x) (rw g.is_tree r) g.leads low high value ms three gv b.sized.words
                 (omega (arith, b.sized.most)) eleven (rw g.is_tree none_held) (rw g.is_tree spare)
 
-            split : (q : List Store) → stores ms ≡ q → Goal (memory line.nodes free last depth totals (Inserting key value NotBegun) [] []) (taken_up (an_insert key value goes_on true)) Absent
+            split : (q : List Store) → stores ms ≡ q → Goal (memory line.nodes free last depth totals back (Inserting key value NotBegun) [] []) (taken_up (an_insert key value goes_on true)) Absent
             split [] q = absurd (omega (arith, count, ap length q))
             split (s ∷ rest) q =
                 let l₁ : suc (length rest) ≡ 73 = sym (ap length q) ∙ count in
                 let p₁ : First c line key t (s ∷ rest) (without_all ms free) (g.number ∷ []) (put key value) (depth_of g.context) = rw (g.is_tree, q) at p in
-                first_made _ (memory line.nodes free last depth totals (Inserting key value NotBegun) [] []) counted _ s rest
+                first_made _ (memory line.nodes free last depth totals back (Inserting key value NotBegun) [] []) counted reserved _ s rest
                 (without_all ms free) (last_of last ms) (g.number ∷ []) (depth_of g.context) refl (job_insert in_hand_lem)
-                (step_puts greatest c line.nodes b.sized b.header free last depth totals key value
+                (step_puts greatest c line.nodes b.sized b.header free last depth totals back key value
                 ∙ put_full greatest c line.nodes key g.number (link_place g.context) (full_run g.context) (landed key g) value free last
-                (memory line.nodes free last depth totals (Inserting key value NotBegun) [] []) e e₀)
+                (memory line.nodes free last depth totals back (Inserting key value NotBegun) [] []) e e₀)
                 (planned_as ms e₁ ∙ ap (λ (q : List Store). prepared q (without_all ms free) (last_of last ms) (g.number ∷ [])) q) p₁ l₁ (omega arith) (way_limited key g) reach
 
     -- by what its leaf holds
     put_begins : (free : List Bool) (last depth key value : ℕ) → table_violations t ≡ 0 → size t + 3 ≤ line.limit → Partition line free t → lowest_key ≤ key → key
         < key_limit → UpdateSteps t (suc steps) → (room : ℕ) → start_room c key room (landing c line.nodes key) ≡ true → size t + room ≤ line.limit → after_shape (put key value) (bare t) ≡ goal
-        → Goal (memory line.nodes free last depth totals (Inserting key value NotBegun) [] []) (taken_up (told_of (put key value) c goes_on)) (dictionary_answer (lookup key (pairs t)))
+        → Goal (memory line.nodes free last depth totals back (Inserting key value NotBegun) [] []) (taken_up (told_of (put key value) c goes_on)) (dictionary_answer (lookup key (pairs t)))
     put_begins free last depth key value z r x low high few room enough below eg = go (lands key low high)
       where
-        go : (g : LandedAt c line.nodes key t) → Goal (memory line.nodes free last depth totals (Inserting key value NotBegun) [] [])
+        go : (g : LandedAt c line.nodes key t) → Goal (memory line.nodes free last depth totals back (Inserting key value NotBegun) [] [])
             (taken_up (told_of (put key value) c goes_on)) (dictionary_answer (lookup key (pairs t)))
         go g = at (slot_of (node_at c g.number) key) refl
           where
             empty_at : (s : Slot) → slot_of (node_at c g.number) 0 ≡ s → slot_of (node_at c g.number) key ≡ NoSlot
-                → Goal (memory line.nodes free last depth totals (Inserting key value NotBegun) [] [])
+                → Goal (memory line.nodes free last depth totals back (Inserting key value NotBegun) [] [])
                 (taken_up (told_of (put key value) c goes_on)) (dictionary_answer (lookup key (pairs t)))
             empty_at (At i) e₀ e = put_into_slot free last depth key value i z r x low high few g e e₀ eg
             empty_at NoSlot e₀ e = put_by_split free last depth key value z r x low high few room enough below g e e₀ eg
 
-            at : (s : Slot) → slot_of (node_at c g.number) key ≡ s → Goal (memory line.nodes free last depth totals (Inserting key value NotBegun) [] [])
+            at : (s : Slot) → slot_of (node_at c g.number) key ≡ s → Goal (memory line.nodes free last depth totals back (Inserting key value NotBegun) [] [])
                 (taken_up (told_of (put key value) c goes_on)) (dictionary_answer (lookup key (pairs t)))
             at (At i) e = put_answers free last depth key value i z r x g e (leaf_full c key) eg
             at NoSlot e = empty_at (slot_of (node_at c g.number) 0) refl e
 
     remove_begins : (free : List Bool) (last depth key : ℕ) → table_violations t ≡ 0 → size t + 3 ≤ line.limit → Partition line free t
         → lowest_key ≤ key → key < key_limit → UpdateSteps t (suc steps) → after_shape (remove key) (bare t) ≡ goal
-        → Goal (memory line.nodes free last depth totals (Deleting key NotBegun 0) [] []) (taken_up (told_of (remove key) c goes_on)) (dictionary_answer (lookup key (pairs t)))
+        → Goal (memory line.nodes free last depth totals back (Deleting key NotBegun 0) [] []) (taken_up (told_of (remove key) c goes_on)) (dictionary_answer (lookup key (pairs t)))
     remove_begins free last depth key z r x low high few eg = go (lands key low high)
       where
         go : (g : LandedAt c line.nodes key t)
-            → Goal (memory line.nodes free last depth totals (Deleting key NotBegun 0) [] []) (taken_up (told_of (remove key) c goes_on)) (dictionary_answer (lookup key (pairs t)))
+            → Goal (memory line.nodes free last depth totals back (Deleting key NotBegun 0) [] []) (taken_up (told_of (remove key) c goes_on)) (dictionary_answer (lookup key (pairs t)))
         go g = at (slot_of (node_at c g.number) key) refl
           where
-            at : (s : Slot) → slot_of (node_at c g.number) key ≡ s → Goal (memory line.nodes free last depth totals (Deleting key NotBegun 0) [] [])
+            at : (s : Slot) → slot_of (node_at c g.number) key ≡ s → Goal (memory line.nodes free last depth totals back (Deleting key NotBegun 0) [] [])
                 (taken_up (told_of (remove key) c goes_on)) (dictionary_answer (lookup key (pairs t)))
             at (At i) e = remove_from_slot free last depth key i z r x low high few g e eg
             at NoSlot e = remove_answers free last depth key z r x g e eg
 
   -- a step at any stage
-  pub stage_steps : (m : Memory) (h : Hand) (due : Answer) → Totals m.totals (pairs t) → Stage c line t goal (suc steps) m h due → Goal m h due
+  pub stage_steps : (m : Memory) (h : Hand) (due : Answer) → Totals m.totals (pairs t) → Reserved line m.back → Stage c line t goal (suc steps) m h due → Goal m h due
   unfolding step_refused outcome step_reply fed_step
-  stage_steps m h due k (stage_idle {free} {last} {depth} {totals = totals} z r x eg) =
-      rw (step_idle greatest c line.nodes b.sized b.header free last depth totals) (idle_inv totals k due free last depth l same z r x eg, no_call, was_idle refl)
-  stage_steps m h due k (stage_put {free} {last} {depth} {key} {value} {totals} room z r x low high enough below few eg) =
-      put_begins totals k free last depth key value z r x low high few room enough below eg
-  stage_steps m h due k (stage_remove {free} {last} {depth} {key} {totals} z r x low high few eg) = remove_begins totals k free last depth key z r x low high few eg
-  stage_steps m h due k (stage_first {free} {last} {depth} {key} {doing} {u = u} {deciding = deciding} {count = i} {cut = cut} {s = s} {rest = rest} {totals = totals} j p en count few hd) =
-      stored_goal (memory line.nodes free last depth totals doing (s ∷ rest) cut) _ s.0 s.1 (holding u deciding i) due (first_storable p.plays)
-      (step_stores greatest c line.nodes b.sized b.header free last depth totals doing (job_busy j) cut s rest (first_storable p.plays).inside)
-      (busy_after line.nodes free last depth totals (s ∷ rest) cut (job_busy j) rest) (update_stored greatest
-      deciding i last depth steps totals (s ∷ rest) l b same k apart j p en count (omega arith) hd)
-  stage_steps m h due k (stage_between {free} {last} {depth} {totals = totals} j en deep r x few hd) = repaired totals k free last depth deep j en r x few hd
-  stage_steps m h due k (stage_within {free} {last} {depth} {key} {doing} {cut = cut} {s = s} {rest = rest} {totals = totals} j en p e few hd) =
-      let g = entered_on totals k en in
-      stored_goal (memory line.nodes free last depth totals doing (s ∷ rest) cut) _ s.0 s.1 h due (first_storable p.plays)
-      (step_stores greatest c line.nodes b.sized b.header free last depth totals doing (job_busy j) cut s rest (first_storable p.plays).inside)
-      (busy_after line.nodes free last depth totals (s ∷ rest) cut (job_busy j) rest)
-      (rw g.1 (repair_stored greatest last depth steps totals (s ∷ rest) l b same k apart j g.2 p e (omega arith) hd))
+  stage_steps m h due k v (stage_idle {free} {last} {depth} {totals = totals} {back = back} z r x eg) =
+      rw (step_idle greatest c line.nodes b.sized b.header free last depth totals back) (idle_inv totals k back v due free last depth l same z r x eg, no_call, was_idle refl)
+  stage_steps m h due k v (stage_put {free} {last} {depth} {key} {value} {totals} {back} room z r x low high enough below few eg) =
+      put_begins totals k back v free last depth key value z r x low high few room enough below eg
+  stage_steps m h due k v (stage_remove {free} {last} {depth} {key} {totals} {back} z r x low high few eg) = remove_begins totals k back v free last depth key z r x low high few eg
+  stage_steps m h due k v (stage_first {free} {last} {depth} {key} {doing} {u = u}
+      {deciding = deciding} {count = i} {cut = cut} {s = s} {rest = rest} {totals = totals} {back = back} j p en count few hd) =
+      stored_goal (memory line.nodes free last depth totals back doing (s ∷ rest) cut) _ s.0 s.1 (holding u deciding i) due (first_storable p.plays)
+      (step_stores greatest c line.nodes b.sized b.header free last depth totals back doing (job_busy j) cut s rest (first_storable p.plays).inside)
+      (busy_after line.nodes free last depth totals back (s ∷ rest) cut (job_busy j) rest) (update_stored greatest
+      deciding i last depth steps totals back (s ∷ rest) l b same k apart v j p en count (omega arith) hd)
+  stage_steps m h due k v (stage_between {free} {last} {depth} {totals = totals} {back = back} j en deep r x few hd) = repaired totals k back v free last depth deep j en r x few hd
+  stage_steps m h due k v (stage_within {free} {last} {depth} {key} {doing} {cut = cut} {s = s} {rest = rest} {totals = totals} {back = back} j en p e few hd) =
+      let g = entered_on totals k back v en in
+      stored_goal (memory line.nodes free last depth totals back doing (s ∷ rest) cut) _ s.0 s.1 h due (first_storable p.plays)
+      (step_stores greatest c line.nodes b.sized b.header free last depth totals back doing (job_busy j) cut s rest (first_storable p.plays).inside)
+      (busy_after line.nodes free last depth totals back (s ∷ rest) cut (job_busy j) rest)
+      (rw g.1 (repair_stored greatest last depth steps totals back (s ∷ rest) l b same k apart v j g.2 p e (omega arith) hd))
 
 -- THE STEP: the invariant is kept, and an answer given is the one due
 pub kept_step : (greatest : ℕ) (line : Line) (steps : ℕ) (w : World (ration_table greatest)) (b : Book) (i : Inv greatest line (suc steps) w b)
@@ -524,4 +527,4 @@ pub kept_step : (greatest : ℕ) (line : Line) (steps : ℕ) (w : World (ration_
 unfolding happens feed told reply_to
 kept_step greatest line steps w b i =
     stage_steps greatest line steps w.card i.tree i.table
-    i.openable i.apart b.held i.same i.goal w.state b.in_hand i.due i.counted i.stage
+    i.openable i.apart b.held i.same i.goal w.state b.in_hand i.due i.counted i.reserved i.stage

@@ -36,9 +36,9 @@ use Rattle.state.specs.declared.Held.TheVariants.{Task as HeldTask}
 use Rattle.theory_tree.proofs.Cut.{cut}
 
 -- the state, field by field
-abbrev pub memory : ℕ → List Bool → ℕ → ℕ → List ℕ → Doing → List Store → List ℕ → Memory
-memory n free last depth totals doing rest cut =
-    record { nodes = n; free = free; last = last; doing = doing; rest = rest; cut = cut; depth = depth; totals = totals }
+abbrev pub memory : ℕ → List Bool → ℕ → ℕ → List ℕ → ℕ → Doing → List Store → List ℕ → Memory
+memory n free last depth totals back doing rest cut =
+    record { nodes = n; free = free; last = last; doing = doing; rest = rest; cut = cut; depth = depth; totals = totals; back = back }
 
 -- work in progress: a task is held
 pub record Busy (doing : Doing) : Type 0 where
@@ -88,25 +88,27 @@ module _ (greatest : ℕ) (c : List ℕ) (n : ℕ) (sized : Sized greatest (leng
   headed : (m : Memory) → m.nodes ≡ n → header_refusal c m.nodes ≡ 0
   headed m e = rw e (formatted_header c n header)
 
-  module _ (free : List Bool) (last depth : ℕ) (totals : List ℕ) where
-    pub step_idle : step_of greatest 1 c (memory n free last depth totals Idle [] []) ≡ step_refused 10 c (memory n free last depth totals Idle [] [])
+  module _ (free : List Bool) (last depth : ℕ) (totals : List ℕ) (back : ℕ) where
+    pub step_idle : step_of greatest 1 c (memory n free last depth totals back Idle [] []) ≡ step_refused 10 c (memory n free last depth totals back Idle [] [])
     unfolding held_by
-    step_idle = checks_passed (memory n free last depth totals Idle [] []) refl ∙ table-idle 1 c (memory n free last depth totals Idle [] []) (headed (memory n free last depth totals Idle [] []) refl)
+    step_idle =
+        checks_passed (memory n free last depth totals back Idle [] []) refl
+        ∙ table-idle 1 c (memory n free last depth totals back Idle [] []) (headed (memory n free last depth totals back Idle [] []) refl)
 
     module _ (doing : Doing) (busy : Busy doing) (cut : List ℕ) where
-      work : (rest : List Store) → step_of greatest 1 c (memory n free last depth totals doing rest cut) ≡ step_task c (memory n free last depth totals doing rest cut) busy.task rest
+      work : (rest : List Store) → step_of greatest 1 c (memory n free last depth totals back doing rest cut) ≡ step_task c (memory n free last depth totals back doing rest cut) busy.task rest
       work rest =
-          let m = memory n free last depth totals doing rest cut in
+          let m = memory n free last depth totals back doing rest cut in
           checks_passed m refl ∙ ap (step_held 1 c m) busy.held ∙ task_due c m (omega (arith, sized.words)) (headed m refl) busy.task
 
       -- a store of the change in hand
-      pub step_stores : (s : Store) (rest : List Store) → s.0 < length c → step_of greatest 1 c (memory n free last depth totals doing (s ∷ rest) cut)
-          ≡ record { answer = Stored s.0; card = set c s.0 s.1; memory = advanced (memory n free last depth totals doing (s ∷ rest) cut) rest }
+      pub step_stores : (s : Store) (rest : List Store) → s.0 < length c → step_of greatest 1 c (memory n free last depth totals back doing (s ∷ rest) cut)
+          ≡ record { answer = Stored s.0; card = set c s.0 s.1; memory = advanced (memory n free last depth totals back doing (s ∷ rest) cut) rest }
       unfolding step_task step_store
       step_stores s rest h = work (s ∷ rest) ∙ rw (lt-ltb s.0 (length c) h)
 
       -- no change in hand
-      step_plans : step_of greatest 1 c (memory n free last depth totals doing [] cut) ≡ step_task c (memory n free last depth totals doing [] cut) busy.task []
+      step_plans : step_of greatest 1 c (memory n free last depth totals back doing [] cut) ≡ step_task c (memory n free last depth totals back doing [] cut) busy.task []
       step_plans = work []
 
 -- what a preparation makes of a step
@@ -117,29 +119,29 @@ prepared_ready c m doing final p e = ap (step_prepared c m doing final) e
 
 pub prepared_first : (c : List ℕ) (m : Memory) (doing : Doing) (final : Answer) (p : Preparation) (s : Store)
     (rest : List Store) (free : List Bool) (last : ℕ) (cut : List ℕ) → p ≡ prepared (s ∷ rest) free last cut → s.0 < length c
-    → step_prepared c m doing final p ≡ record { answer = Stored s.0; card = set c s.0 s.1; memory = advanced (memory m.nodes free last m.depth m.totals doing [] cut) rest }
+    → step_prepared c m doing final p ≡ record { answer = Stored s.0; card = set c s.0 s.1; memory = advanced (memory m.nodes free last m.depth m.totals m.back doing [] cut) rest }
 unfolding step_prepared step_store planning
 prepared_first c m doing final p s rest free last cut e h = ap (step_prepared c m doing final) e ∙ rw (lt-ltb s.0 (length c) h)
 
 -- the next change of a repair
-pub step_repairs : (greatest : ℕ) (c : List ℕ) (n : ℕ) → Sized greatest (length c) n → Formatted c n → (free : List Bool) (last depth : ℕ) (totals : List ℕ) {phase : Phase}
+pub step_repairs : (greatest : ℕ) (c : List ℕ) (n : ℕ) → Sized greatest (length c) n → Formatted c n → (free : List Bool) (last depth : ℕ) (totals : List ℕ) (back : ℕ) {phase : Phase}
     {doing : Doing} {key : ℕ} {final : Answer} {u : Option Update} (j : Job phase doing key final u)
-    → step_of greatest 1 c (memory n free last depth totals doing [] []) ≡ step_prepared c (memory n free last depth totals doing [] []) doing final (next_repair c n key free last)
-step_repairs greatest c n s f free last depth totals {doing = doing} j =
-    step_plans greatest c n s f free last depth totals doing (job_busy j) [] ∙ job_plan j c (memory n free last depth totals doing [] []) refl
+    → step_of greatest 1 c (memory n free last depth totals back doing [] []) ≡ step_prepared c (memory n free last depth totals back doing [] []) doing final (next_repair c n key free last)
+step_repairs greatest c n s f free last depth totals back {doing = doing} j =
+    step_plans greatest c n s f free last depth totals back doing (job_busy j) [] ∙ job_plan j c (memory n free last depth totals back doing [] []) refl
 
 -- the first change of an update
-pub step_puts : (greatest : ℕ) (c : List ℕ) (n : ℕ) → Sized greatest (length c) n → Formatted c n → (free : List Bool) (last depth : ℕ) (totals : List ℕ) (key value : ℕ)
-    → step_of greatest 1 c (memory n free last depth totals (Inserting key value NotBegun) [] []) ≡ step_begin c
-    (memory n free last depth totals (Inserting key value NotBegun) [] []) (next_change c n free last (Inserting key value NotBegun) (PutIn key value))
+pub step_puts : (greatest : ℕ) (c : List ℕ) (n : ℕ) → Sized greatest (length c) n → Formatted c n → (free : List Bool) (last depth : ℕ) (totals : List ℕ) (back key value : ℕ)
+    → step_of greatest 1 c (memory n free last depth totals back (Inserting key value NotBegun) [] []) ≡ step_begin c
+    (memory n free last depth totals back (Inserting key value NotBegun) [] []) (next_change c n free last (Inserting key value NotBegun) (PutIn key value))
 unfolding put_busy step_task
-step_puts greatest c n s f free last depth totals key value = step_plans greatest c n s f free last depth totals (Inserting key value NotBegun) (put_busy key value) []
+step_puts greatest c n s f free last depth totals back key value = step_plans greatest c n s f free last depth totals back (Inserting key value NotBegun) (put_busy key value) []
 
-pub step_removes : (greatest : ℕ) (c : List ℕ) (n : ℕ) → Sized greatest (length c) n → Formatted c n → (free : List Bool) (last depth : ℕ) (totals : List ℕ) (key : ℕ)
-    → step_of greatest 1 c (memory n free last depth totals (Deleting key NotBegun 0) [] [])
-    ≡ step_begin c (memory n free last depth totals (Deleting key NotBegun 0) [] []) (next_change c n free last (Deleting key NotBegun 0) (TakeOut key))
+pub step_removes : (greatest : ℕ) (c : List ℕ) (n : ℕ) → Sized greatest (length c) n → Formatted c n → (free : List Bool) (last depth : ℕ) (totals : List ℕ) (back key : ℕ)
+    → step_of greatest 1 c (memory n free last depth totals back (Deleting key NotBegun 0) [] [])
+    ≡ step_begin c (memory n free last depth totals back (Deleting key NotBegun 0) [] []) (next_change c n free last (Deleting key NotBegun 0) (TakeOut key))
 unfolding remove_busy step_task
-step_removes greatest c n s f free last depth totals key = step_plans greatest c n s f free last depth totals (Deleting key NotBegun 0) (remove_busy key 0) []
+step_removes greatest c n s f free last depth totals back key = step_plans greatest c n s f free last depth totals back (Deleting key NotBegun 0) (remove_busy key 0) []
 
 -- a step of an idle state is refused and changes nothing, whatever the card
 pub idle_refused : (greatest : ℕ) (c : List ℕ) (m : Memory) → m.doing ≡ Idle → (r : ℕ) × (step_of greatest 1 c m ≡ step_refused r c m)

@@ -9,19 +9,23 @@ use native.Mathlib.Omega.{arith}
 use lib.Dec.{eqb, ltb}
 use lib.ListN.{length, get_or}
 use Rattle.card.specs.Lines.{seen}
-use Rattle.theory_change.proofs.Line.{only}
+use Rattle.theory_change.proofs.Line.{Line, only}
 use Rattle.card.specs.Header.{nodes_of_length, card_refusal}
 use Rattle.card.specs.Layout.{key_limit, node_at, search_start}
 use Rattle.card.specs.Replies.{Reply, ready, started}
 use Rattle.card.specs.Stores.{Store}
 use Rattle.demands.specs.Book.{Book, book, feed, told, put, remove, empty}
-use Rattle.demands.specs.Demand2.{Repairs, Updates}
+use Rattle.demands.specs.Demand2.{Repairs}
 use Rattle.demands.specs.Events.{World, opened, happens, insert, delete}
 use Rattle.demands.specs.Way.{nodes_on}
 use Rattle.demands.specs.Rules.{InsertRule, DeleteRule}
 use Rattle.demands.proofs.ByRules.{Begun, repairs_by_rules, first_by_rules, put_turns, remove_turns}
-use Rattle.demands.specs.RationTable.{ration_table}
-use Rattle.demands.proofs.PowerCuts.{Covered, covered_nodes}
+use Rattle.demands.specs.RationTable.{work_of, ration_table}
+use Rattle.demands.specs.Table.{repairing}
+use Rattle.demands.proofs.Work.{work_repairing}
+use Rattle.demands.proofs.Mending.{Mending, Updating, repairs_alone}
+use Rattle.demands.proofs.PowerCuts.{Covered}
+use Rattle.demands.proofs.WayDown.{sized_on}
 use Rattle.demands.proofs.StartRows.{started_doing}
 use Rattle.demands.proofs.StepRows.{next_final}
 use Rattle.demands.proofs.Making.{Nears}
@@ -38,9 +42,9 @@ use Rattle.call_open.specs.Opening.{open_sound, open_checked, open_of}
 use Rattle.change_plan.specs.Change.{Change}
 use Rattle.change_plan.specs.Planning.{take_numbers, over_numbers, giving, balanced, prepared}
 use Rattle.demands.proofs.BookLaws.{dictionary_answer}
-use Rattle.demands.proofs.Invariant.{job_repair, job_insert, job_delete}
+use Rattle.demands.proofs.Invariant.{Inv, job_repair, job_insert, job_delete}
 use Rattle.demands.proofs.PowerLoss.{reopened_inv, reopened_due}
-use Rattle.demands.proofs.Starting.{nodes_same, kept_insert, kept_delete}
+use Rattle.demands.proofs.Starting.{kept_insert, kept_delete}
 use Rattle.card_check.specs.Check.{Findings, table_check}
 use Rattle.card_check.specs.Counting.{table_counted}
 use Rattle.call_start.specs.Starts.{insert_of, delete_of, room_of}
@@ -78,7 +82,7 @@ unfolding open_checked
 checked_doing n last totals none = none_doing 4 (omega arith)
 checked_doing n last totals (some r) = sound_doing n last totals r.1
 
-open_doing : (greatest : ℕ) (c : List ℕ) → OpenDoing (open_of greatest c)
+pub open_doing : (greatest : ℕ) (c : List ℕ) → OpenDoing (open_of greatest c)
 unfolding open_of
 open_doing greatest c =
     bool_cases (eqb (card_refusal greatest c) 0) (λ q. rw q (checked_doing (nodes_of_length greatest (length c)) (search_start c) (table_counted c) (table_check c (nodes_of_length greatest (length c)))))
@@ -93,27 +97,27 @@ giving_not_balanced k free last change e = at (take_numbers k free last) e
     at none q = impossible (cc)
     at (some ms) q = impossible (cc)
 
-module _ (greatest : ℕ) (w : World (ration_table greatest)) (b : Book) (v : Covered greatest w b) where
+module _ (greatest : ℕ) (line : Line) (steps : ℕ) (w : World (ration_table greatest)) (b : Book) (i : Inv greatest line steps w b) where
   -- a started update is near its end, and its answer is the dictionary's
   insert_nears : (key value : ℕ) → key < key_limit → (insert_of greatest 1 w.card w.state key value).begun ≡ Started
-      → (most : ℕ) × Nears greatest (dictionary_answer (lookup key b.held)) most (happens (ration_table greatest) (insert key value) w)
+      → (most : ℕ) × Nears greatest line (dictionary_answer (lookup key b.held)) most (happens (ration_table greatest) (insert key value) w)
       × (is_idle (happens (ration_table greatest) (insert key value) w).state.doing ≡ false)
   unfolding happens
   insert_nears key value high e =
-      let q = kept_insert greatest v.size v.steps w b v.inv key value high in (
+      let q = kept_insert greatest line steps w b i key value high in (
         q.0,
-        record { book_now = feed (told (ration_table greatest) (insert key value) w) b; covered = record { size = v.size; steps = q.0; inv = q.1 }; soon = omega arith; is_due = q.2.new_due e },
+        record { book_now = feed (told (ration_table greatest) (insert key value) w) b; steps = q.0; inv = q.1; soon = omega arith; is_due = q.2.new_due e },
         q.2.busy e,
       )
 
   delete_nears : (key : ℕ) → key < key_limit → (delete_of greatest 1 w.card w.state key).begun ≡ Started
-      → (most : ℕ) × Nears greatest (dictionary_answer (lookup key b.held)) most (happens (ration_table greatest) (delete key) w)
+      → (most : ℕ) × Nears greatest line (dictionary_answer (lookup key b.held)) most (happens (ration_table greatest) (delete key) w)
       × (is_idle (happens (ration_table greatest) (delete key) w).state.doing ≡ false)
   unfolding happens
   delete_nears key high e =
-      let q = kept_delete greatest (only v.size) v.steps w b v.inv key high in (
+      let q = kept_delete greatest line steps w b i key high in (
         q.0,
-        record { book_now = feed (told (ration_table greatest) (delete key) w) b; covered = record { size = v.size; steps = q.0; inv = q.1 }; soon = omega arith; is_due = q.2.new_due e },
+        record { book_now = feed (told (ration_table greatest) (delete key) w) b; steps = q.0; inv = q.1; soon = omega arith; is_due = q.2.new_due e },
         q.2.busy e,
       )
 
@@ -176,61 +180,58 @@ module _ (greatest : ℕ) (w : World (ration_table greatest)) (b : Book) (v : Co
       at NoSlot e q (some v) k = let y : ◌≡◌ {A = Answer} Absent (Value v) = q ∙ ap dictionary_answer k in impossible (cc)
 
   pub insert_by_rules : (key value : ℕ) → key < key_limit → (insert_of greatest 1 w.card w.state key value).begun ≡ Started
-      → Updates (ration_table greatest) ((a : ℕ) × (lookup key b.held ≡ some a)) (InsertRule w.card key value)
+      → Updating greatest line ((a : ℕ) × (lookup key b.held ≡ some a)) (InsertRule w.card key value)
       (step_reply (dictionary_answer (lookup key b.held))) (happens (ration_table greatest) (insert key value) w)
   unfolding happens insert_of next_change
   insert_by_rules key value high e =
       let q = insert_nears key value high e in
-      let u = q.1.covered in
+      let u = q.1.inv in
       let m = (insert_of greatest 1 w.card w.state key value).memory in
       let d : m.doing ≡ Inserting key value NotBegun = started_doing greatest w.card w.state (Inserting key value NotBegun) (start_room (seen 1 w.card) key (room_of w.state)) key e in
-      let n : nodes_on w.card ≡ u.size = covered_nodes greatest u ∙ nodes_same greatest (only u.size) u.steps (happens (ration_table greatest) (insert key value) w)
-      q.1.book_now u.inv in
-      first_by_rules greatest (dictionary_answer (lookup key b.held)) q.0 (happens (ration_table greatest) (insert key value) w) q.1 q.2
+      let n : nodes_on w.card ≡ line.nodes = sized_on greatest w.card line.nodes u.table.sized in
+      first_by_rules greatest line (dictionary_answer (lookup key b.held)) q.0 (happens (ration_table greatest) (insert key value) w) q.1 q.2
       ((a : ℕ) × (lookup key b.held ≡ some a)) (InsertRule w.card key value) (λ given out ss r. insert_short r)
-      (next_change w.card u.size m.free m.last (Inserting key value NotBegun) (PutIn key value))
-      (put_turns greatest key value u.inv.table u.inv.stage d)
-      (next_final greatest w.card u.size m.free m.last putting)
-      (next_stores m.free m.last w.card u.size (Inserting key value NotBegun) (PutIn key value))
-      (insert_nothing w.card key value m.free m.last (landing w.card u.size key) (lookup key b.held))
+      (next_change w.card line.nodes m.free m.last (Inserting key value NotBegun) (PutIn key value))
+      (put_turns greatest key value u.table u.stage d)
+      (next_final greatest w.card line.nodes m.free m.last putting)
+      (next_stores m.free m.last w.card line.nodes (Inserting key value NotBegun) (PutIn key value))
+      (insert_nothing w.card key value m.free m.last (landing w.card line.nodes key) (lookup key b.held))
       (λ ss fewer now out p. (
-        insert_by_rule w.card u.size key n (Inserting key value NotBegun) value p,
-        prepared_insert w.card key value m.free m.last (landing w.card u.size key) p,
+        insert_by_rule w.card line.nodes key n (Inserting key value NotBegun) value p,
+        prepared_insert w.card key value m.free m.last (landing w.card line.nodes key) p,
       ))
 
   pub delete_by_rules : (key : ℕ) → key < key_limit → (delete_of greatest 1 w.card w.state key).begun ≡ Started
-      → Updates (ration_table greatest) (lookup key b.held ≡ none) (DeleteRule w.card key) (step_reply (dictionary_answer (lookup key b.held))) (happens (ration_table greatest) (delete key) w)
+      → Updating greatest line (lookup key b.held ≡ none) (DeleteRule w.card key) (step_reply (dictionary_answer (lookup key b.held))) (happens (ration_table greatest) (delete key) w)
   unfolding happens delete_of next_change
   delete_by_rules key high e =
       let q = delete_nears key high e in
-      let u = q.1.covered in
+      let u = q.1.inv in
       let m = (delete_of greatest 1 w.card w.state key).memory in
       let d : m.doing ≡ Deleting key NotBegun 0 = started_doing greatest w.card w.state (Deleting key NotBegun 0) (λ l. true) key e in
-      let n : nodes_on w.card ≡ u.size = covered_nodes greatest u ∙ nodes_same greatest (only u.size) u.steps (happens (ration_table greatest) (delete key) w) q.1.book_now u.inv in
-      first_by_rules greatest (dictionary_answer (lookup key b.held)) q.0 (happens (ration_table greatest) (delete key) w) q.1 q.2
+      let n : nodes_on w.card ≡ line.nodes = sized_on greatest w.card line.nodes u.table.sized in
+      first_by_rules greatest line (dictionary_answer (lookup key b.held)) q.0 (happens (ration_table greatest) (delete key) w) q.1 q.2
       (lookup key b.held ≡ none) (DeleteRule w.card key) (λ given out ss r. delete_short r)
-      (next_change w.card u.size m.free m.last (Deleting key NotBegun 0) (TakeOut key))
-      (remove_turns greatest key u.inv.table u.inv.stage d)
-      (next_final greatest w.card u.size m.free m.last taking)
-      (next_stores m.free m.last w.card u.size (Deleting key NotBegun 0) (TakeOut key))
-      (delete_nothing w.card key m.free m.last (landing w.card u.size key) (lookup key b.held))
-      (λ ss fewer now out p. (delete_by_rule w.card u.size key n (Deleting key NotBegun 0) p, prepared_delete w.card key m.free m.last (landing w.card u.size key) p))
+      (next_change w.card line.nodes m.free m.last (Deleting key NotBegun 0) (TakeOut key))
+      (remove_turns greatest key u.table u.stage d)
+      (next_final greatest w.card line.nodes m.free m.last taking)
+      (next_stores m.free m.last w.card line.nodes (Deleting key NotBegun 0) (TakeOut key))
+      (delete_nothing w.card key m.free m.last (landing w.card line.nodes key) (lookup key b.held))
+      (λ ss fewer now out p. (delete_by_rule w.card line.nodes key n (Deleting key NotBegun 0) p, prepared_delete w.card key m.free m.last (landing w.card line.nodes key) p))
 
-  -- opening's repair
-  pub opening_by_rules : ((ration_table greatest).open_card w.card).reply ≡ started → Repairs (ration_table greatest) ready (opened (ration_table greatest) w.card)
-  unfolding start_reply step_reply
-  opening_by_rules e = at (open_doing greatest w.card)
-    where
-      at : ((open_of greatest w.card).memory.rest ≡ [])
-          × ((start_reply (open_of greatest w.card).begun ≡ started → ⊥) ⊎ ((key : ℕ) × ((open_of greatest w.card).memory.doing ≡ Repairing key)))
-          → Repairs (ration_table greatest) ready (opened (ration_table greatest) w.card)
-      at (r, inl not) = absurd (not e)
-      at (r, inr (key, d)) =
-          repairs_by_rules greatest Ready (suc repair_steps) repair_steps (opened (ration_table greatest) w.card) (omega arith)
-          (record {
-            book_now = book b.held empty;
-            covered = record { size = v.size; steps = repair_steps; inv = reopened_inv greatest v.size w.card v.inv.tree b.held v.inv.table v.inv.openable v.inv.same };
-            soon = omega arith;
-            is_due = reopened_due greatest v.size w.card v.inv.tree b.held v.inv.table v.inv.openable v.inv.same;
-          })
-          r (subst Begun (sym d) (Decided, key, Ready, none, job_repair))
+  -- a repair of opening's, at its beginning
+  pub resumed_by_rules : (key : ℕ) → w.state.doing ≡ Repairing key → w.state.rest ≡ [] → i.due ≡ Ready → Mending greatest line ready w
+  unfolding step_reply
+  resumed_by_rules key e empty-rest due =
+      repairs_by_rules greatest line Ready (suc steps) steps w (omega arith) (record { book_now = b; steps = steps; inv = i; soon = omega arith; is_due = due })
+      empty-rest (subst Begun (sym e) (Decided, key, Ready, none, job_repair))
+
+-- opening's repair
+pub opening_by_rules : (greatest : ℕ) (w : World (ration_table greatest)) (b : Book) (v : Covered greatest w b) (key : ℕ)
+    → work_of (open_of greatest w.card).memory.doing ≡ repairing key → Repairs (ration_table greatest) ready (opened (ration_table greatest) w.card)
+opening_by_rules greatest w b v key e =
+    repairs_alone greatest v.size
+    (resumed_by_rules greatest (only v.size) repair_steps (opened (ration_table greatest) w.card) (book b.held empty)
+    (reopened_inv greatest v.size w.card v.inv.tree b.held v.inv.table v.inv.openable v.inv.same) key
+    (work_repairing (open_of greatest w.card).memory.doing e) (open_doing greatest w.card).0
+    (reopened_due greatest v.size w.card v.inv.tree b.held v.inv.table v.inv.openable v.inv.same))

@@ -4,7 +4,7 @@ use mathlib.Core.Bool.{Bool, true, false}
 use mathlib.Core.Logic.{◌⊎◌, inl, inr}
 use Prim.Native.Nat.{ℕ}
 use Rattle.demands.specs.RationTable.{has_begun, work_of}
-use Rattle.demands.specs.Table.{no_work, formatting, inserting, deleting}
+use Rattle.demands.specs.Table.{no_work, formatting, inserting, deleting, repairing}
 use Rattle.state.specs.Memory.{settled_phase, settled}
 use Rattle.state.specs.Steps.{is_idle, held_by}
 use Rattle.state.specs.declared.Doing.{Doing}
@@ -47,6 +47,17 @@ work_formatting (Formatting made) e = (made, refl)
 work_formatting (Inserting key value phase) e = impossible (cc)
 work_formatting (Deleting key phase value) e = impossible (cc)
 work_formatting (Repairing key) e = impossible (cc)
+
+pub work_repairing : {key : ℕ} (d : Doing) → work_of d ≡ repairing key → d ≡ Repairing key
+unfolding work_of
+work_repairing Idle e = impossible (cc)
+work_repairing (Formatting made) e = impossible (cc)
+work_repairing (Inserting key value phase) e = impossible (cc)
+work_repairing (Deleting key phase value) e = impossible (cc)
+work_repairing (Repairing key) e = ap Repairing (same_key e)
+  where
+    same_key : {a b : ℕ} → repairing a ≡ repairing b → a ≡ b
+    same_key q = cc
 
 -- the last store of a change leaves both as they are
 pub settled_idle : (d : Doing) → is_idle (settled d) ≡ is_idle d

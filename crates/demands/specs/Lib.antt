@@ -9,6 +9,8 @@ pub mod Way
 pub mod Book
 -- the table that the demands are proved of
 pub mod RationTable
+-- a line of a card of either form
+pub mod LineTable
 -- the table "Refusal by place"
 pub mod Refusals
 -- a table that is worked by these calls alone
@@ -19,6 +21,8 @@ pub mod Rules
 pub mod Demand1
 pub mod Demand2
 pub mod Demand3
+-- demand 1 of a line of a card of either form
+pub mod LineDemand1
 -- document 01, dumps and the program `list`
 pub mod Dumps
 pub mod List

@@ -31,7 +31,7 @@ repaired_world T c = run T (replicate most_repair_steps step) (opened T c)
 pub record ListsRight (T : Table) (c : List ℕ) (l : Listing) : Type 0 where
   -- of the table on the repaired card
   pub table : Tree
-  pub balanced : Balanced (repaired_world T c).card table
+  pub balanced : Balanced (T.own (repaired_world T c).card) table
   pub nodes : l.nodes ≡ nodes_on c
   -- the free nodes are exactly those that are not reached
   pub unreached : List Bool

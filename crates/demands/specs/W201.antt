@@ -10,7 +10,8 @@ use Rattle.theory_tree.specs.WellFormed.{WellFormed}
 use Rattle.demands.specs.Table.{Table}
 use Rattle.demands.specs.Worked.{Always}
 use Rattle.demands.specs.Way.{nodes_on}
-use Rattle.demands.specs.Refusals.{ByRows, card_rows, end}
+use Rattle.demands.specs.Refusals.{Rows, ByRows, card_rows, end, row}
+use Rattle.demands.specs.LineDemand1.{form_rows, NoLine}
 
 -- "the pair with the smallest key greater than it", of these pairs
 pub record Nearest (l : List (ℕ × ℕ)) (number key value : ℕ) : Type 0 where
@@ -47,18 +48,27 @@ module _ (T : Table) (c : List ℕ) where
     pub alike : (key : ℕ) → lookup key listed ≡ lookup key l
     pub as_many : length listed ≡ length l
 
-  -- a card that is not refused with 1, 2 or 3
+  -- a card that is not refused with one of its rows
   pub record OnAnyCard : Type 0 where
     pub held_to : (number : ℕ) → HeldTo number (T.next c number)
     -- a sound table is answered exactly, also where opening would refuse it with 5; a number is a word
-    pub exact : (t : Tree) → WellFormed c t → (number : ℕ) → number < key_limit → AnswersNext (pairs t) number (T.next c number)
-    pub walks : (t : Tree) → WellFormed c t → Walked (pairs t)
+    pub exact : (t : Tree) → WellFormed (T.own c) t → (number : ℕ) → number < key_limit → AnswersNext (pairs t) number (T.next c number)
+    pub walks : (t : Tree) → WellFormed (T.own c) t → Walked (pairs t)
 
-pub record W201 (greatest : ℕ) (T : Table) : Type 0 where
+-- its refusals on a card with mark 1: 1, 2 and 3
+abbrev pub next_rows : ℕ → List ℕ → Rows
+next_rows greatest c = card_rows greatest c (nodes_on c) end
+
+-- and for a line of a card of either form (document 02, W-207): 17 after 3, and "18: line number not one the card has"
+abbrev pub line_next_rows : ℕ → ℕ → List ℕ → Rows
+line_next_rows line greatest c = form_rows greatest c (nodes_on c) (row 18 (NoLine c line) end)
+
+-- `rows_of` are the rows of a card, which are others where a card has more than one line.
+pub record W201 (greatest : ℕ) (T : Table) (rows_of : ℕ → List ℕ → Rows) : Type 0 where
   -- "like a find, and may come between steps": on a table as in demand 2, at every moment, by the book's pairs. The lists hold such
   -- calls themselves, and cuts too: so also between the steps of a repair, and of one begun again after a cut.
   pub moments : Always T (λ w b. (number : ℕ) → number < key_limit → AnswersNext b.held number (T.next w.card number))
   pub walks : Always T (λ w b. Walked T w.card b.held)
-  -- every card, whatever its words: 1, 2, 3, and past them never 6; so also while formatting runs, with 2 from its first store to the
+  -- every card, whatever its words: those refusals, and past them never 6; so also while formatting runs, with 2 from its first store to the
   -- last, which is the mark
-  pub cards : (c : List ℕ) → ByRows (card_rows greatest c (nodes_on c) end) (λ r. (number : ℕ) → T.next c number ≡ refusal r) (OnAnyCard T c)
+  pub cards : (c : List ℕ) → ByRows (rows_of greatest c) (λ r. (number : ℕ) → T.next c number ≡ refusal r) (OnAnyCard T c)

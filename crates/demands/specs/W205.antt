@@ -3,11 +3,14 @@
 --
 -- Demands 1 and 2 say which node is taken for given last then (`search-first`) and that each node given is the next free one after
 -- the one given last, going round (`Makes.taken`). Here the two are put together, over all that may come between.
+--
+-- Document 02, W-207, of a card with two lines: "One node given last serves both lines; the search starts after line 1's root", which stands
+-- where document 01's root does (`searchStart`), whichever line is asked.
 use Rattle.std.specs.Prelude.{◌≡◌, List, [], ◌∷◌, ℕ}
 use Rattle.card.specs.Layout.{search_start}
 use Rattle.card.specs.Stores.{Store}
 use Rattle.demands.specs.Table.{Table}
-use Rattle.demands.specs.Events.{Event, World, happens, run, Begins, ask, insert, delete, step, cut}
+use Rattle.demands.specs.Events.{Event, World, happens, run, Begins, ask, insert, delete, step, elsewhere, cut}
 use Rattle.demands.specs.Rules.{Given}
 use Rattle.demands.specs.Demand2.{Makes}
 
@@ -24,6 +27,7 @@ module _ (T : Table) where
   NodesUntaken (insert key value ∷ es) w = SameFree (insert key value) w × NodesUntaken es (happens T (insert key value) w)
   NodesUntaken (delete key ∷ es) w = SameFree (delete key) w × NodesUntaken es (happens T (delete key) w)
   NodesUntaken (step ∷ es) w = SameFree step w × NodesUntaken es (happens T step w)
+  NodesUntaken (elsewhere x ∷ es) w = SameFree (elsewhere x) w × NodesUntaken es (happens T (elsewhere x) w)
   NodesUntaken (cut ∷ es) w = ⊥
 
   -- The table as formatting or opening left it: until a node is given, the root's is taken for the one given last; and the first

@@ -33,14 +33,14 @@ module _ (T : Table) (w : World T) (key : ℕ) (out : List ℕ) where
   -- the key is not held, and leads to this leaf, below j 11-child nodes without a break straight above
   pub record LeadsAbsent (leaf j : ℕ) : Type 0 where
     pub not_held : T.find w.card key ≡ absent
-    pub leads : leads_to w.card key ≡ some (leaf, j)
+    pub leads : leads_to (T.own w.card) key ≡ some (leaf, j)
 
   pub record TellsSlot : Type 0 where
     pub leaf : ℕ
     pub j : ℕ
     pub place : LeadsAbsent leaf j
     -- "A key word of 0 is an empty slot."
-    pub empty : among 0 (key_words (node_at w.card leaf)) ≡ true
+    pub empty : among 0 (key_words (node_at (T.own w.card) leaf)) ≡ true
     -- "`slot`"
     pub printed : out ≡ slot_word ++ line_feed
 
@@ -48,7 +48,7 @@ module _ (T : Table) (w : World T) (key : ℕ) (out : List ℕ) where
     pub leaf : ℕ
     pub j : ℕ
     pub place : LeadsAbsent leaf j
-    pub full : among 0 (key_words (node_at w.card leaf)) ≡ false
+    pub full : among 0 (key_words (node_at (T.own w.card) leaf)) ≡ false
     -- "`split J free F need M`, M being j + 5"
     pub printed : out ≡ split_line j (count_true (T.free w.state)) (split_need j)
 

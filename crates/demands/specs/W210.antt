@@ -9,6 +9,7 @@ use Rattle.card_dump.specs.Dump.{dump_nodes}
 use Rattle.list_pairs.specs.Listing.{refused}
 use Rattle.list_text.specs.Text.{list_text}
 use Rattle.text_row.specs.Lines.{refusal_line}
+use Rattle.call_start.specs.CardStarts.{one_line}
 use Rattle.theory_tree.specs.Height.{most_levels}
 use Rattle.demands.specs.Demand2.{most_stores}
 use Rattle.demands.specs.RationTable.{ration_table}
@@ -17,7 +18,7 @@ use Rattle.demands.specs.RationTable.{ration_table}
 pub record SameCalls (less more : ℕ) (c : List ℕ) : Type 0 where
   pub finds : (key : ℕ) → (ration_table less).find c key ≡ (ration_table more).find c key
   pub nexts : (number : ℕ) → (ration_table less).next c number ≡ (ration_table more).next c number
-  pub formats : (ration_table less).format c ≡ (ration_table more).format c
+  pub formats : (ration_table less).format one_line c ≡ (ration_table more).format one_line c
   pub opens : (ration_table less).open_card c ≡ (ration_table more).open_card c
   pub inserts : (m : (ration_table less).State) (key value : ℕ) → (ration_table less).insert c m key value ≡ (ration_table more).insert c m key value
   pub deletes : (m : (ration_table less).State) (key : ℕ) → (ration_table less).delete c m key ≡ (ration_table more).delete c m key
@@ -27,7 +28,7 @@ pub record SameCalls (less more : ℕ) (c : List ℕ) : Type 0 where
 pub record RefusedAll (greatest : ℕ) (c : List ℕ) : Type 0 where
   pub finds : (key : ℕ) → (ration_table greatest).find c key ≡ refusal 1
   pub nexts : (number : ℕ) → (ration_table greatest).next c number ≡ refusal 1
-  pub formats : ((ration_table greatest).format c).reply ≡ refusal 1
+  pub formats : ((ration_table greatest).format one_line c).reply ≡ refusal 1
   pub opens : ((ration_table greatest).open_card c).reply ≡ refusal 1
   pub inserts : (m : (ration_table greatest).State) (key value : ℕ) → ((ration_table greatest).insert c m key value).reply ≡ refusal 1
   pub deletes : (m : (ration_table greatest).State) (key : ℕ) → ((ration_table greatest).delete c m key).reply ≡ refusal 1

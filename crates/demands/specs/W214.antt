@@ -41,12 +41,12 @@ module _ (T : Table) where
   -- the call e, about a key, begins on a card of depth h: where it is started, it ends within that bound with the dictionary's answer
   abbrev pub EndsByDepth : Event → ℕ → World T → List (ℕ × ℕ) → Type 0
   EndsByDepth e key w l =
-      (t : Tree) → WellFormed w.card t → (h : ℕ) → Height h t → reply_to T e w ≡ started → Finishes T (stores_at h) (dictionary (lookup key l)) (happens T e w)
+      (t : Tree) → WellFormed (T.own w.card) t → (h : ℕ) → Height h t → reply_to T e w ≡ started → Finishes T (stores_at h) (dictionary (lookup key l)) (happens T e w)
 
 pub record W214 (T : Table) : Type 0 where
   -- "Show that on every balanced tree .."
   pub trees : (c : List ℕ) (t : Tree) → Balanced c t → (h : ℕ) → Height h t → Levels t h (length (pairs t))
   -- ".. and that on a table as in demand 2 this holds for each line after every finished update and repair": the state is idle then
-  pub lines : Always T (λ w b. Idle T w.state → Line w.card b.held)
+  pub lines : Always T (λ w b. Idle T w.state → Line (T.own w.card) b.held)
   pub inserts : Always T (λ w b. (key value : ℕ) → key < key_limit → EndsByDepth T (insert key value) key w b.held)
   pub deletes : Always T (λ w b. (key : ℕ) → key < key_limit → EndsByDepth T (delete key) key w b.held)

@@ -2,11 +2,11 @@
 use mathlib.Core.Path.{◌≡◌, refl, sym, ap, ap₂, subst, ◌∙◌}
 use mathlib.Core.Bool.{Bool, true, false}
 use mathlib.Core.List.{List, [], ◌∷◌, ◌++◌, zip}
-use Prim.Native.Nat.{ℕ, zero, suc, ◌+◌, ◌*◌, ◌/◌, ◌%◌, ◌≤◌, ◌<◌, ◌^◌}
+use Prim.Native.Nat.{ℕ, zero, suc, ◌+◌, ◌-◌, ◌*◌, ◌/◌, ◌%◌, ◌≤◌, ◌<◌, ◌^◌}
 use native.Mathlib.Omega.{arith}
 use native.Mathlib.Nat.{pow-suc}
 use lib.ListN.{length, get_or, set, take, drop, replicate, length-set, length-take, length-drop, take-append-drop}
-use lib.Seq.{take_at, drop_at, drop-drop, drop-cons, drop-set-add, take_all, get_or-set_same, get_or-set_other}
+use lib.Seq.{take_at, drop_at, drop-drop, take_all, get_or-drop, get_or-set_same, get_or-set_other}
 use lib.Dec.{ltb, eqb}
 use borrow.Author.Tests.{lt-ltb, eq-eqb, ne_eqb}
 use Rattle.laws.specs.Bits.{bit}
@@ -14,7 +14,7 @@ use Rattle.laws.specs.Lists.{before_zero}
 use Rattle.laws.specs.Digits.{digits_of}
 use Rattle.laws.proofs.Digits.{length_digits}
 use Rattle.card_family.specs.Families.{family_count, several_in}
-use Rattle.card_free.specs.NodeSet.{word_count, nodes_of, all_nodes}
+use Rattle.card_free.specs.NodeSet.{word_count, nodes_of, all_nodes, count_true}
 use Rattle.change_plan.specs.Plan.{stores_of}
 use Rattle.state.specs.Memory.{Memory, resting, no_memory, settled_in, settled_out, settled_totals}
 use Rattle.state.specs.Steps.{is_idle}
@@ -23,7 +23,7 @@ use Rattle.state.specs.declared.Doing.{Doing}
 use Rattle.state.specs.declared.Doing.TheVariants.{Idle, Formatting, Inserting, Deleting, Repairing}
 use Rattle.state.specs.declared.Phase.{Phase}
 use Rattle.state.specs.declared.Phase.TheVariants.{NotBegun, InHand, Decided}
-use Rattle.state.specs.Block.{depth_at, totals_at, lines_at, back_at, free_at, places_at, values_at, rest_words, state_words, block_word, part}
+use Rattle.state.specs.Block.{depth_at, totals_at, lines_at, back_at, free_at, places_at, values_at, rest_words, line_words, state_words, block_word, part}
 use Rattle.state.specs.Block.{phase_in, doing_in, phase_word, head_in, memory_in, doing_words, head_words}
 use Rattle.state.specs.Blocks.{over, begun_block, number_of, words_of, resting_words, resting_block}
 use Rattle.state.proofs.Rows.{three, append_after, same_part, placed, placed_length, placed_before, placed_after, placed_part}
@@ -105,7 +105,7 @@ doing_read (Repairing key) = refl
 
 -- a state with something else being done
 unfoldable pub with_doing : Memory → Doing → Memory
-with_doing m doing = record { nodes = m.nodes; free = m.free; last = m.last; doing = doing; rest = m.rest; cut = m.cut; depth = m.depth; totals = m.totals }
+with_doing m doing = record { nodes = m.nodes; free = m.free; last = m.last; doing = doing; rest = m.rest; cut = m.cut; depth = m.depth; totals = m.totals; back = m.back }
 
 memory_four : (block : List ℕ) (p q r s : ℕ) → 11 ≤ length block → memory_in (over block 2 (p ∷ q ∷ r ∷ s ∷ [])) ≡ with_doing (memory_in block) (doing_in p q r s)
 unfolding memory_in with_doing
@@ -127,14 +127,14 @@ begun_length block doing l =
 
 -- a state with another depth
 unfoldable pub with_depth : Memory → ℕ → Memory
-with_depth m depth = record { nodes = m.nodes; free = m.free; last = m.last; doing = m.doing; rest = m.rest; cut = m.cut; depth = depth; totals = m.totals }
+with_depth m depth = record { nodes = m.nodes; free = m.free; last = m.last; doing = m.doing; rest = m.rest; cut = m.cut; depth = depth; totals = m.totals; back = m.back }
 
 pub memory_deep : (block : List ℕ) (depth : ℕ) → length block ≡ state_words → memory_in (set block depth_at depth) ≡ with_depth (memory_in block) depth
 unfolding memory_in with_depth
 memory_deep block depth l =
     by_head (λ (b : List ℕ). length b ≡ state_words → memory_in (set b depth_at depth) ≡ with_depth (memory_in b) depth) block (omega arith)
     (λ n last w d e f g i j k m rest h.
-    let with : List ℕ → List ℕ → List ℕ → ℕ → List ℕ → Memory = λ x y z deep totals. record {
+    let with : List ℕ → List ℕ → List ℕ → ℕ → List ℕ → ℕ → Memory = λ x y z deep totals back. record {
       nodes = n;
       free = nodes_of x;
       last = last;
@@ -143,13 +143,15 @@ memory_deep block depth l =
       cut = before_zero (j ∷ k ∷ m ∷ []);
       depth = deep;
       totals = totals;
+      back = back;
     } in
     let after : List ℕ = set rest (word_count + 146) depth in
-    ap₂ (λ (x y : List ℕ). with x y (part after (word_count + 73) 73) (get_or after (word_count + 146) 0) (part after (word_count + 147) family_count))
+    ap₂ (λ (x y : List ℕ). with x y (part after (word_count + 73) 73) (get_or after (word_count + 146) 0) (part after (word_count + 147) family_count) (get_or after (word_count + 164) 0))
     (before rest 0 word_count (omega arith)) (before rest word_count 73 (omega arith))
-    ∙ ap₂ (λ (z : List ℕ) (deep : ℕ). with (part rest 0 word_count) (part rest word_count 73) z deep (part after (word_count + 147) family_count))
+    ∙ ap₂ (λ (z : List ℕ) (deep : ℕ). with (part rest 0 word_count) (part rest word_count 73) z deep (part after (word_count + 147) family_count) (get_or after (word_count + 164) 0))
     (before rest (word_count + 73) 73 (omega arith)) (get_or-set_same rest (word_count + 146) depth 0 (omega arith))
-    ∙ ap (with (part rest 0 word_count) (part rest word_count 73) (part rest (word_count + 73) 73) depth) (behind rest))
+    ∙ ap₂ (with (part rest 0 word_count) (part rest word_count 73) (part rest (word_count + 73) 73) depth) (behind rest)
+    (get_or-set_other rest (word_count + 146) (word_count + 164) depth 0 (λ z. omega arith)))
     l
   where
     before : (rest : List ℕ) (from count : ℕ) → from + count ≤ (word_count + 146) → part (set rest (word_count + 146) depth) from count ≡ part rest from count
@@ -287,9 +289,6 @@ module _ (block row : List ℕ) (l : length block ≡ state_words) where
     pub freed_length : length (placed free_at word_count block row) ≡ state_words
     freed_length = placed_length block row free_at word_count (e ∙ free_span) (omega arith) ∙ l
 
-    pub freed_after : drop back_at (placed free_at word_count block row) ≡ drop back_at block
-    freed_after = placed_after block row free_at word_count (e ∙ free_span) (omega arith) back_at (omega arith)
-
     pub freed_part : part (placed free_at word_count block row) free_at word_count ≡ row
     freed_part = placed_part block row free_at word_count (e ∙ free_span) (omega arith)
 
@@ -297,7 +296,23 @@ module _ (block row : List ℕ) (l : length block ≡ state_words) where
 
 -- a state with other totals
 unfoldable pub with_totals : Memory → List ℕ → Memory
-with_totals m totals = record { nodes = m.nodes; free = m.free; last = m.last; doing = m.doing; rest = m.rest; cut = m.cut; depth = m.depth; totals = totals }
+with_totals m totals = record { nodes = m.nodes; free = m.free; last = m.last; doing = m.doing; rest = m.rest; cut = m.cut; depth = m.depth; totals = totals; back = m.back }
+
+-- The line at rest is worked next, with its totals (document 02, W-207). It may not use the room that the other line has, nor what both
+-- limits leave of N.
+unfoldable pub turned : Memory → List ℕ → ℕ → Memory
+turned m totals limits =
+    record {
+      nodes = m.nodes;
+      free = m.free;
+      last = m.last;
+      doing = m.doing;
+      rest = m.rest;
+      cut = m.cut;
+      depth = m.depth;
+      totals = totals;
+      back = (m.nodes - limits) + (count_true m.free - m.back);
+    }
 
 module _ (b totals : List ℕ) (l : length b ≡ state_words) (k : length totals ≡ family_count) where
   abbrev stored : List ℕ
@@ -315,8 +330,10 @@ module _ (b totals : List ℕ) (l : length b ≡ state_words) (k : length totals
   pub stored_part : (from n : ℕ) → from + n ≤ totals_at → part stored from n ≡ part b from n
   stored_part from n h = same_part stored b from n (stored_length ∙ sym l) (λ j u v. stored_before j (omega arith))
 
-  pub stored_after : drop back_at stored ≡ drop back_at b
-  stored_after = ap (drop back_at) stored_is ∙ placed_after b totals totals_at family_count k (omega arith) back_at (omega arith)
+  stored_back : block_word stored back_at ≡ block_word b back_at
+  stored_back =
+      ap (λ (x : List ℕ). get_or x back_at 0) stored_is ∙ sym (get_or-drop back_at (placed totals_at family_count b totals) 0 0)
+      ∙ ap (λ (x : List ℕ). get_or x 0 0) (placed_after b totals totals_at family_count k (omega arith) back_at (omega arith)) ∙ get_or-drop back_at b 0 0
 
   pub stored_totals : part stored totals_at family_count ≡ totals
   stored_totals = ap (λ (x : List ℕ). part x totals_at family_count) stored_is ∙ placed_part b totals totals_at family_count k (omega arith)
@@ -327,7 +344,7 @@ memory_totals block totals len k =
     by_head (λ (b : List ℕ). length b ≡ state_words → memory_in (over b totals_at totals) ≡ with_totals (memory_in b) totals) block (omega arith)
     (λ n last w d e f g i j q m rest h.
     let b : List ℕ = n ∷ last ∷ w ∷ d ∷ e ∷ f ∷ g ∷ i ∷ j ∷ q ∷ m ∷ rest in
-    let with : List ℕ → List ℕ → List ℕ → ℕ → List ℕ → Memory = λ x y z deep t. record {
+    let with : List ℕ → List ℕ → List ℕ → ℕ → List ℕ → ℕ → Memory = λ x y z deep t back. record {
       nodes = n;
       free = nodes_of x;
       last = last;
@@ -336,13 +353,14 @@ memory_totals block totals len k =
       cut = before_zero (j ∷ q ∷ m ∷ []);
       depth = deep;
       totals = t;
+      back = back;
     } in
     let s : List ℕ = over b totals_at totals in
-    ap₂ (λ (x y : List ℕ). with x y (part s values_at 73) (block_word s depth_at) (part s totals_at family_count))
+    ap₂ (λ (x y : List ℕ). with x y (part s values_at 73) (block_word s depth_at) (part s totals_at family_count) (block_word s back_at))
     (stored_part b totals h k free_at word_count (omega arith)) (stored_part b totals h k places_at 73 (omega arith))
-    ∙ ap₂ (λ (z : List ℕ) (deep : ℕ). with (part b free_at word_count) (part b places_at 73) z deep (part s totals_at family_count))
+    ∙ ap₂ (λ (z : List ℕ) (deep : ℕ). with (part b free_at word_count) (part b places_at 73) z deep (part s totals_at family_count) (block_word s back_at))
     (stored_part b totals h k values_at 73 (omega arith)) (stored_before b totals h k depth_at (omega arith))
-    ∙ ap (with (part b free_at word_count) (part b places_at 73) (part b values_at 73) (block_word b depth_at)) (stored_totals b totals h k))
+    ∙ ap₂ (with (part b free_at word_count) (part b places_at 73) (part b values_at 73) (block_word b depth_at)) (stored_totals b totals h k) (stored_back b totals h k))
     len
 
 -- the totals of a first change in hand, and of any other work
@@ -360,10 +378,10 @@ settled_long (Repairing key) totals = refl
 
 -- ---- a state with no change planned
 
-module _ (n : ℕ) (free : List ℕ) (last : ℕ) (totals after : List ℕ) (long : length free ≡ word_count) (all : length totals ≡ family_count) where
+module _ (n : ℕ) (free : List ℕ) (last : ℕ) (totals : List ℕ) (long : length free ≡ word_count) (all : length totals ≡ family_count) where
   -- what stands behind the words of the free nodes
   abbrev tail : List ℕ
-  tail = replicate rest_words 0 ++ (totals ++ after)
+  tail = replicate rest_words 0 ++ (totals ++ replicate line_words 0)
 
   resting_four : (p q r s : ℕ) → memory_in (n ∷ last ∷ p ∷ q ∷ r ∷ s ∷ 0 ∷ 0 ∷ 0 ∷ 0 ∷ 0 ∷ free ++ tail) ≡ resting n (nodes_of free) last totals (doing_in p q r s)
   unfolding memory_in resting stores_of zip
@@ -377,43 +395,44 @@ module _ (n : ℕ) (free : List ℕ) (last : ℕ) (totals after : List ℕ) (lon
         cut = [];
         depth = d;
         totals = take family_count (drop (word_count + 147) (free ++ tail));
+        back = get_or (free ++ tail) (word_count + 164) 0;
       })
       (take_at free tail word_count long)
       (append_after free tail 146 (word_count + 146) (omega arith))
-      ∙ ap (λ (l : List ℕ). record { nodes = n; free = nodes_of free; last = last; doing = doing_in p q r s; rest = []; cut = []; depth = 0; totals = l }) behind
+      ∙ ap₂ (λ (l : List ℕ) (k : ℕ). record { nodes = n; free = nodes_of free; last = last; doing = doing_in p q r s; rest = []; cut = []; depth = 0; totals = l; back = k })
+      behind none
     where
       behind : take family_count (drop (word_count + 147) (free ++ tail)) ≡ totals
       behind =
           ap (take family_count) (sym (drop-drop 147 word_count (free ++ tail)) ∙ ap (drop 147) (drop_at free tail word_count long)
-          ∙ drop_at (replicate rest_words 0) (totals ++ after) 147 refl)
-          ∙ take_at totals after family_count all
+          ∙ drop_at (replicate rest_words 0) (totals ++ replicate line_words 0) 147 refl)
+          ∙ take_at totals (replicate line_words 0) family_count all
 
-  pub memory_resting : (doing : Doing) → memory_in (resting_words n free last (totals ++ after) doing) ≡ resting n (nodes_of free) last totals doing
+      none : get_or (free ++ tail) (word_count + 164) 0 ≡ 0
+      none =
+          append_after free tail 164 (word_count + 164) (omega arith) ∙ append_after (replicate rest_words 0) (totals ++ replicate line_words 0) 17 164 refl
+          ∙ append_after totals (replicate line_words 0) 1 17 (omega arith)
+
+  pub memory_resting : (doing : Doing) → memory_in (resting_words n free last totals doing) ≡ resting n (nodes_of free) last totals doing
   unfolding resting_words
   memory_resting doing =
       ap (λ (words : List ℕ). memory_in (n ∷ last ∷ words ++ (0 ∷ 0 ∷ 0 ∷ 0 ∷ 0 ∷ free ++ tail))) (sym (words_each doing)) ∙ resting_four _ _ _ _
       ∙ ap (resting n (nodes_of free) last totals) (doing_read doing)
 
--- of a card with one line
-pub resting_block_lem : (before : List ℕ) (n : ℕ) (free : List ℕ) (last : ℕ) (totals : List ℕ) (doing : Doing) → length free ≡ word_count → ((i : ℕ) → get_or free i 0 < 2 ^ 32)
-    → resting_words n free last (totals ++ 0 ∷ drop back_at before) doing ≡ resting_block before (resting n (nodes_of free) last totals doing)
+pub resting_block_lem : (n : ℕ) (free : List ℕ) (last : ℕ) (totals : List ℕ) (doing : Doing) → length free ≡ word_count → ((i : ℕ) → get_or free i 0 < 2 ^ 32)
+    → resting_words n free last totals doing ≡ resting_block (resting n (nodes_of free) last totals doing)
 unfolding resting_block resting
-resting_block_lem before n free last totals doing long h =
-    ap (λ (l : List ℕ). resting_words n l last (totals ++ 0 ∷ drop back_at before) doing) (sym (ap (λ (k : ℕ). words_of k (nodes_of free)) (sym long) ∙ words_nodes free h))
-
--- it does not go by the words before these
-pub resting_same : (a b : List ℕ) (m : Memory) → drop back_at a ≡ drop back_at b → resting_block a m ≡ resting_block b m
-unfolding resting_block
-resting_same a b m e = ap (λ (x : List ℕ). resting_words m.nodes (words_of word_count m.free) m.last (m.totals ++ 0 ∷ x) m.doing) e
+resting_block_lem n free last totals doing long h =
+    ap (λ (l : List ℕ). resting_words n l last totals doing) (sym (ap (λ (k : ℕ). words_of k (nodes_of free)) (sym long) ∙ words_nodes free h))
 
 -- "Opening or starting to format, refused, hands back an idle state for N = 0": zeros
-pub none_block : (before : List ℕ) → replicate back_at 0 ++ drop back_at before ≡ resting_block before no_memory
+pub none_block : replicate state_words 0 ≡ resting_block no_memory
 unfolding resting_block resting_words no_memory doing_words words_of number_of all_nodes
-none_block before = refl
+none_block = refl
 
-pub memory_none : (after : List ℕ) → memory_in (replicate back_at 0 ++ after) ≡ no_memory
+pub memory_none : memory_in (replicate state_words 0) ≡ no_memory
 unfolding memory_in no_memory doing_in nodes_of digits_of all_nodes stores_of zip
-memory_none after = refl
+memory_none = refl
 
 -- the stores that make it: words 0 and 1 and 6 to 10, what is being done, and the rows
 abbrev pub numbered : List ℕ → ℕ → ℕ → List ℕ
@@ -434,31 +453,46 @@ rest_four block zeros n last p q r s len z =
     ap (λ (t : List ℕ). n ∷ last ∷ p ∷ q ∷ r ∷ s ∷ 0 ∷ 0 ∷ 0 ∷ 0 ∷ 0 ∷ take word_count rest ++ t) (ap₂ (λ (x y : List ℕ). x ++ y) z (drop-drop rest_words word_count rest)))
     len
 
--- the words from the totals on, of a block that says that its card has one line
-one_line : (block : List ℕ) → length block ≡ state_words → drop totals_at (set block lines_at 0) ≡ part block totals_at family_count ++ 0 ∷ drop back_at block
-one_line block len =
-    drop-set-add totals_at block family_count 0
-    ∙ ap (λ (l : List ℕ). set l family_count 0) (sym (take-append-drop family_count (drop totals_at block)) ∙ ap (λ (l : List ℕ). part block totals_at family_count ++ l)
-    (drop-drop family_count totals_at block ∙ drop-cons block lines_at 0 (omega arith)))
-    ∙ set_at (part block totals_at family_count) (drop back_at block) (get_or block lines_at 0) family_count (omega (arith, length-take family_count (drop totals_at block), length-drop totals_at block))
-  where
-    set_at : (xs ys : List ℕ) (y i : ℕ) → length xs ≡ i → set (xs ++ y ∷ ys) i 0 ≡ xs ++ 0 ∷ ys
-    set_at [] ys y i e = ap (λ (k : ℕ). set (y ∷ ys) k 0) (sym e)
-    set_at (x ∷ xs) ys y zero e = absurd (omega arith)
-    set_at (x ∷ xs) ys y (suc i) e = ap (λ (l : List ℕ). x ∷ l) (set_at xs ys y i (omega arith))
+-- a block whose words after the totals were stored anew: those of the free nodes stand, and the totals
+module _ (block ends : List ℕ) (len : length block ≡ state_words) (z : ends ≡ replicate line_words 0) where
+  abbrev cleared : List ℕ
+  cleared = placed lines_at line_words block ends
 
--- another word of the block in it changes neither the free nodes nor the totals before it
-free_before : (block : List ℕ) → part (set block lines_at 0) free_at word_count ≡ part block free_at word_count
-free_before block = same_part (set block lines_at 0) block free_at word_count (length-set block lines_at 0) (λ i a b. get_or-set_other block lines_at i 0 0 (λ z. omega arith))
+  span : length ends ≡ line_words
+  span = ap length z
 
-pub rest_stored : (block zeros : List ℕ) (n last : ℕ) (doing : Doing) → length block ≡ state_words → zeros ≡ replicate rest_words 0
-    → placed places_at rest_words (begun_block (numbered (set block lines_at 0) n last) doing) zeros
-    ≡ resting_words n (part block free_at word_count) last (part block totals_at family_count ++ 0 ∷ drop back_at block) doing
-unfolding begun_block resting_words
-rest_stored block zeros n last doing len z =
-    ap (λ (words : List ℕ). placed places_at rest_words (over (numbered (set block lines_at 0) n last) 2 words) zeros) (sym (words_each doing))
-    ∙ rest_four (set block lines_at 0) zeros n last _ _ _ _ (length-set block lines_at 0 ∙ len) z
-    ∙ ap (λ (words : List ℕ). n ∷ last ∷ words
-    ++ (0 ∷ 0 ∷ 0 ∷ 0 ∷ 0 ∷ part (set block lines_at 0) free_at word_count ++ (replicate rest_words 0 ++ drop totals_at (set block lines_at 0))))
-    (words_each doing)
-    ∙ ap₂ (λ (x y : List ℕ). n ∷ last ∷ doing_words doing ++ (0 ∷ 0 ∷ 0 ∷ 0 ∷ 0 ∷ x ++ (replicate rest_words 0 ++ y))) (free_before block) (one_line block len)
+  cleared_length : length cleared ≡ state_words
+  cleared_length = placed_length block ends lines_at line_words span (omega arith) ∙ len
+
+  cleared_part : (from n : ℕ) → from + n ≤ lines_at → part cleared from n ≡ part block from n
+  cleared_part from n h =
+      same_part cleared block from n (cleared_length ∙ sym len) (λ j u v. placed_before block ends lines_at line_words span (omega arith) j (omega arith))
+
+  cleared_totals : drop totals_at cleared ≡ part block totals_at family_count ++ replicate line_words 0
+  cleared_totals =
+      sym (take-append-drop family_count (drop totals_at cleared))
+      ∙ ap₂ (λ (x y : List ℕ). x ++ y) (cleared_part totals_at family_count (omega arith))
+      (drop-drop family_count totals_at cleared ∙ sym (take_all line_words (drop lines_at cleared) (omega (arith, length-drop lines_at cleared, cleared_length)))
+      ∙ placed_part block ends lines_at line_words span (omega arith) ∙ z)
+
+  -- it is all one whether they are stored before the first words or after
+  numbered_cleared : (n last p q r s : ℕ)
+      → placed lines_at line_words (over (numbered block n last) 2 (p ∷ q ∷ r ∷ s ∷ [])) ends ≡ over (numbered cleared n last) 2 (p ∷ q ∷ r ∷ s ∷ [])
+  numbered_cleared n last p q r s =
+      by_head
+      (λ (x : List ℕ). placed lines_at line_words (over (numbered x n last) 2 (p ∷ q ∷ r ∷ s ∷ [])) ends
+      ≡ over (numbered (placed lines_at line_words x ends) n last) 2 (p ∷ q ∷ r ∷ s ∷ []))
+      block (omega arith) (λ a b c d e f g i j k l rest. refl)
+
+  pub rest_stored : (zeros : List ℕ) (n last : ℕ) (doing : Doing) → zeros ≡ replicate rest_words 0
+      → placed places_at rest_words (placed lines_at line_words (begun_block (numbered block n last) doing) ends) zeros
+      ≡ resting_words n (part block free_at word_count) last (part block totals_at family_count) doing
+  unfolding begun_block resting_words
+  rest_stored zeros n last doing none =
+      ap (λ (words : List ℕ). placed places_at rest_words (placed lines_at line_words (over (numbered block n last) 2 words) ends) zeros) (sym (words_each doing))
+      ∙ ap (λ (x : List ℕ). placed places_at rest_words x zeros) (numbered_cleared n last _ _ _ _)
+      ∙ rest_four cleared zeros n last _ _ _ _ cleared_length none
+      ∙ ap (λ (words : List ℕ). n ∷ last ∷ words ++ (0 ∷ 0 ∷ 0 ∷ 0 ∷ 0 ∷ part cleared free_at word_count ++ (replicate rest_words 0 ++ drop totals_at cleared)))
+      (words_each doing)
+      ∙ ap₂ (λ (x y : List ℕ). n ∷ last ∷ doing_words doing ++ (0 ∷ 0 ∷ 0 ∷ 0 ∷ 0 ∷ x ++ (replicate rest_words 0 ++ y)))
+      (cleared_part free_at word_count (omega arith)) cleared_totals

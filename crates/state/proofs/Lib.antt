@@ -2,6 +2,8 @@
 pub mod Rows
 -- what a block holds whose words are those of a definition, and the stores that make it
 pub mod Blocks
+-- document 02, W-207: the words after the totals, on a card with two lines
+pub mod CardBlocks
 -- laws of the stores: one for each branch of the code
 pub mod StepLaws
 -- what task a state holds that is doing this

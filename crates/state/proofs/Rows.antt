@@ -37,7 +37,7 @@ append_after xs ys i j e =
 abbrev pub placed : ℕ → ℕ → List ℕ → List ℕ → List ℕ
 placed from count xs ys = take from xs ++ (ys ++ drop count (drop from xs))
 
-placed_next : (xs rest ys : List ℕ) (a n : ℕ) → length xs ≡ a → placed a n (xs ++ rest) ys ≡ (xs ++ ys) ++ drop n rest
+pub placed_next : (xs rest ys : List ℕ) (a n : ℕ) → length xs ≡ a → placed a n (xs ++ rest) ys ≡ (xs ++ ys) ++ drop n rest
 placed_next xs rest ys a n e = ap₂ (λ (x y : List ℕ). x ++ (ys ++ drop n y)) (take_at xs rest a e) (drop_at xs rest a e) ∙ sym (append_assoc xs ys (drop n rest))
 
 -- the free nodes, the places and the values, stored in one order or the other; the words after them stay

@@ -15,7 +15,7 @@ use Rattle.change_plan.specs.Plan.{stores_of}
 use Rattle.change_plan.specs.Planning.{with_all}
 use Rattle.laws.proofs.Cases.{order, impossible}
 use Rattle.laws.specs.Lists.{before_zero}
-use Rattle.state.specs.Steps.{step_refused, formatted_word, format_store, step_store}
+use Rattle.state.specs.Steps.{step_refused, formatted_word, store_by, format_store, step_store}
 use Rattle.state.specs.Memory.{Memory, advanced}
 use Rattle.state.specs.Results.{more_to_store}
 use Rattle.state.specs.declared.Answer.TheVariants.{Stored}
@@ -111,29 +111,43 @@ module _ (card : List ℕ) (m : Memory) (s : Store) (next : Memory) where
 
 -- the stores to come that a state tells of do not bear on the next state
 pub advance_same : (m : Memory) (r ss : List Store)
-    → advanced (record { nodes = m.nodes; free = m.free; last = m.last; doing = m.doing; rest = r; cut = m.cut; depth = m.depth; totals = m.totals }) ss
+    → advanced (record { nodes = m.nodes; free = m.free; last = m.last; doing = m.doing; rest = r; cut = m.cut; depth = m.depth; totals = m.totals; back = m.back }) ss
     ≡ advanced m ss
 unfolding advanced
 advance_same m r [] = refl
 advance_same m r (s ∷ rest) = refl
 
--- formatting
+-- formatting, with any words and any mark
+module _ (word : ℕ → ℕ) (mark len made : ℕ) where
+  pub store_first : made ≡ 0 → store_by word mark len made ≡ some (0, 0)
+  store_first z = simp (eq-eqb made 0 z)
+
+  pub store_middle : (made ≡ 0 → ⊥) → made < len → store_by word mark len made ≡ some (made, word made)
+  store_middle p h = simp (ne_eqb made 0 p, lt-ltb made len h)
+
+  pub store_last : (made ≡ 0 → ⊥) → made ≡ len → store_by word mark len made ≡ some (0, mark)
+  store_last p h = simp (ne_eqb made 0 p, le-ltb made len (omega arith), eq-eqb made len h)
+
+  pub store_end : len < made → store_by word mark len made ≡ none
+  store_end h = simp (ne_eqb made 0 (λ z. omega arith), le-ltb made len (omega arith), ne_eqb made len (λ z. omega arith))
+
+-- and of a card with one line
 module _ (n len made : ℕ) where
   pub format_first : made ≡ 0 → format_store n len made ≡ some (0, 0)
   unfolding format_store
-  format_first z = simp (eq-eqb made 0 z)
+  format_first = store_first (formatted_word n) 1 len made
 
   pub format_middle : (made ≡ 0 → ⊥) → made < len → format_store n len made ≡ some (made, formatted_word n made)
   unfolding format_store
-  format_middle p h = simp (ne_eqb made 0 p, lt-ltb made len h)
+  format_middle = store_middle (formatted_word n) 1 len made
 
   pub format_last : (made ≡ 0 → ⊥) → made ≡ len → format_store n len made ≡ some (0, 1)
   unfolding format_store
-  format_last p h = simp (ne_eqb made 0 p, le-ltb made len (omega arith), eq-eqb made len h)
+  format_last = store_last (formatted_word n) 1 len made
 
   pub format_end : len < made → format_store n len made ≡ none
   unfolding format_store
-  format_end h = simp (ne_eqb made 0 (λ z. omega arith), le-ltb made len (omega arith), ne_eqb made len (λ z. omega arith))
+  format_end = store_end (formatted_word n) 1 len made
 
 -- the words of a formatted card that are 0
 pub word_other : (n i : ℕ) → (i ≡ 1 → ⊥) → (i ≡ 2 → ⊥) → (i ≡ 3 → ⊥) → (i ≡ 4 → ⊥) → (i ≡ 8 → ⊥) → formatted_word n i ≡ 0

@@ -43,12 +43,15 @@ limits_at = lines_at + 2
 abbrev pub rest_totals_at : ℕ
 rest_totals_at = lines_at + 4
 
--- how many words a state block has, and how many of them stand from the plan's places to the totals
+-- how many words a state block has, and how many of them stand from the plan's places to the totals, and after the totals
 abbrev pub state_words : ℕ
 state_words = rest_totals_at + family_count
 
 abbrev pub rest_words : ℕ
 rest_words = 147
+
+abbrev pub line_words : ℕ
+line_words = 4 + family_count
 
 -- word i of a block, and `count` words from word `from` on
 abbrev pub block_word : List ℕ → ℕ → ℕ
@@ -79,7 +82,7 @@ head_in block =
     }
 
 -- what a block holds, as the calls see it: its head; "The free nodes are one bit each"; the stores of the plan that are still to
--- come, by their places and values; the depth; the totals
+-- come, by their places and values; the depth; the totals; the free nodes that the line may not use
 unfoldable pub memory_in : List ℕ → Memory
 memory_in block =
     record {
@@ -91,6 +94,7 @@ memory_in block =
       cut = before_zero (part block 8 3);
       depth = block_word block depth_at;
       totals = part block totals_at family_count;
+      back = block_word block back_at;
     }
 
 -- WRITING. The word for how far an insert or a delete is

@@ -6,7 +6,8 @@ use Rattle.state.specs.Memory.{Memory}
 use Rattle.state.specs.declared.Doing.{Doing}
 use Rattle.state.specs.declared.Begun.{Begun}
 use Rattle.state.specs.declared.Begun.TheVariants.{Idle as OpenedIdle, Started, Refused}
-use Rattle.state.specs.Block.{depth_at, back_at, rest_words, doing_words}
+use Rattle.state.specs.Block.{depth_at, lines_at, rest_words, line_words, doing_words}
+use Rattle.state.specs.CardMemory.{CardMemory}
 
 -- a block with other words from word `from` on
 abbrev pub over : List ℕ → ℕ → List ℕ → List ℕ
@@ -22,14 +23,24 @@ unfoldable pub words_of : ℕ → List Bool → List ℕ
 words_of zero bits = []
 words_of (suc k) bits = number_of (take 32 bits) ∷ words_of k (drop 32 bits)
 
--- all words of a state with no change planned, which has these words of free nodes: N, the node given last, what is being done, no
--- store made or planned, no node cut out, rows of zeros, no depth, and these totals with all words after them
+-- all words of a state of a card with one line and no change planned, which has these words of free nodes: N, the node given last, what
+-- is being done, no store made or planned, no node cut out, rows of zeros, no depth, these totals, and zeros for all that a second line
+-- would have
 unfoldable pub resting_words : ℕ → List ℕ → ℕ → List ℕ → Doing → List ℕ
-resting_words n free last totals doing = n ∷ last ∷ doing_words doing ++ (0 ∷ 0 ∷ 0 ∷ 0 ∷ 0 ∷ free ++ (replicate rest_words 0 ++ totals))
+resting_words n free last totals doing = n ∷ last ∷ doing_words doing ++ (0 ∷ 0 ∷ 0 ∷ 0 ∷ 0 ∷ free ++ (replicate rest_words 0 ++ (totals ++ replicate line_words 0)))
 
--- after opening and starting to format a card with one line: the words after the 0 that says so stand
-unfoldable pub resting_block : List ℕ → Memory → List ℕ
-resting_block before m = resting_words m.nodes (words_of word_count m.free) m.last (m.totals ++ 0 ∷ drop back_at before) m.doing
+-- after opening and starting to format a card with one line, whatever the words were before
+unfoldable pub resting_block : Memory → List ℕ
+resting_block m = resting_words m.nodes (words_of word_count m.free) m.last m.totals m.doing
+
+-- the words after the totals, on a card with two lines (document 02, W-207): the number of the line worked last, the free nodes that it may
+-- not use, the two limits, and the totals of the line at rest
+abbrev pub end_words : ℕ → ℕ → ℕ → ℕ → List ℕ → List ℕ
+end_words worked back first second rest = worked ∷ back ∷ first ∷ second ∷ rest
+
+-- after opening and starting to format a card of either form: the words of the line worked last, and those after its totals
+unfoldable pub resting_card : CardMemory → List ℕ
+resting_card s = over (resting_block s.memory) lines_at (end_words s.worked s.memory.back s.first s.second s.at_rest)
 
 -- something else is being done: words 2 to 5
 unfoldable pub begun_block : List ℕ → Doing → List ℕ

@@ -12,16 +12,27 @@ use Rattle.state.specs.declared.families.Total.{Total}
 use Rattle.state.specs.declared.families.Total.TheVariants.{Refused as NoTotal}
 use Rattle.state.specs.Answers.{total_of}
 use Rattle.state.specs.Block.{state_words, memory_in}
-use Rattle.state.specs.Blocks.{resting_block, started_block}
+use Rattle.state.specs.Blocks.{resting_block, resting_card, started_block}
+use Rattle.state.specs.CardMemory.{HandedCard, card_memory_in, state_total}
 
 -- what opening and starting to format leave: "refused, hands back an idle state for N = 0" is part of `due`
-pub record Opened (before after : List ℕ) (begun : Begun) (due : Handed) : Type 0 where
+pub record Opened (after : List ℕ) (begun : Begun) (due : Handed) : Type 0 where
   pub answered : begun ≡ due.begun
   pub handed : memory_in after ≡ due.memory
-  pub words : after ≡ resting_block before due.memory
+  pub words : after ≡ resting_block due.memory
 
 pub record OpenCall (before after : List ℕ) (begun : Begun) (due : Handed) : Type 0 where
-  pub opened : length before ≡ state_words → Opened before after begun due
+  pub opened : length before ≡ state_words → Opened after begun due
+  pub no_state_lem : (length before ≡ state_words → ⊥) → (begun ≡ BegunRefused no_state.code) × (after ≡ before)
+
+-- the same of a card of either form (document 02, W-207)
+pub record OpenedCard (after : List ℕ) (begun : Begun) (due : HandedCard) : Type 0 where
+  pub answered : begun ≡ due.begun
+  pub handed : card_memory_in after ≡ due.state
+  pub words : after ≡ resting_card due.state
+
+pub record OpenCardCall (before after : List ℕ) (begun : Begun) (due : HandedCard) : Type 0 where
+  pub opened : length before ≡ state_words → OpenedCard after begun due
   pub no_state_lem : (length before ≡ state_words → ⊥) → (begun ≡ BegunRefused no_state.code) × (after ≡ before)
 
 -- starting an update, which is `doing` from then on; that a refusal leaves every word as it was is part of `startedBlock`
@@ -34,4 +45,9 @@ pub record StartCall (before after : List ℕ) (begun : Begun) (doing : Doing) (
 -- the question for a family's total (document 02, W-204)
 pub record TotalCall (block : List ℕ) (family : ℕ) (total : Total) : Type 0 where
   pub told : length block ≡ state_words → total ≡ total_of (memory_in block) family
+  pub no_state_lem : (length block ≡ state_words → ⊥) → total ≡ NoTotal no_state.code
+
+-- and for that of a line (W-207)
+pub record LineTotalCall (block : List ℕ) (line family : ℕ) (total : Total) : Type 0 where
+  pub told : length block ≡ state_words → total ≡ state_total (card_memory_in block) line family
   pub no_state_lem : (length block ≡ state_words → ⊥) → total ≡ NoTotal no_state.code

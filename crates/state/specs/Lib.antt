@@ -12,3 +12,5 @@ pub mod Block
 pub mod Blocks
 -- what opening and starting promise of the block lent to them
 pub mod Clauses
+-- document 02, W-207: the state of a card that may have two lines
+pub mod CardMemory

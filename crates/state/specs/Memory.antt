@@ -10,8 +10,9 @@ use Rattle.state.specs.declared.Phase.{Phase}
 use Rattle.state.specs.declared.Phase.TheVariants.{NotBegun, InHand, Decided}
 
 -- N, the free nodes, the node given last, what is being done, the stores of the change in hand that are still to come, the nodes
--- that the last of them cuts out, of the update begun last the internal nodes on its key's way then (document 02, W-203), and the totals
--- by family (W-204). Two states that agree in these are one state to every call.
+-- that the last of them cuts out, of the update begun last the internal nodes on its key's way then (document 02, W-203), the totals
+-- by family (W-204), and the free nodes that the line may not use (W-207), none on a card with one line. Two states that agree in these
+-- are one state to every call.
 pub record Memory : Type 0 where
   pub nodes : ℕ
   pub free : List Bool
@@ -21,18 +22,34 @@ pub record Memory : Type 0 where
   pub cut : List ℕ
   pub depth : ℕ
   pub totals : List ℕ
+  pub back : ℕ
 
 -- "Opening or starting to format, refused, hands back an idle state for N = 0"
 unfoldable pub no_memory : Memory
-no_memory = record { nodes = 0; free = all_nodes 0; last = 0; doing = Idle; rest = []; cut = []; depth = 0; totals = no_totals }
+no_memory = record { nodes = 0; free = all_nodes 0; last = 0; doing = Idle; rest = []; cut = []; depth = 0; totals = no_totals; back = 0 }
 
--- nothing in hand, or a call or repair with no change planned yet
+-- nothing in hand, or a call or repair with no change planned yet, on a card with one line
 unfoldable pub resting : ℕ → List Bool → ℕ → List ℕ → Doing → Memory
-resting n free last totals doing = record { nodes = n; free = free; last = last; doing = doing; rest = []; cut = []; depth = 0; totals = totals }
+resting n free last totals doing = record { nodes = n; free = free; last = last; doing = doing; rest = []; cut = []; depth = 0; totals = totals; back = 0 }
+
+-- the same of a line that may not use so many of the free nodes
+unfoldable pub with_back : ℕ → Memory → Memory
+with_back back m =
+    record {
+      nodes = m.nodes;
+      free = m.free;
+      last = m.last;
+      doing = m.doing;
+      rest = m.rest;
+      cut = m.cut;
+      depth = m.depth;
+      totals = m.totals;
+      back = back;
+    }
 
 -- the same, idle; the depth stays that of the update begun last
 unfoldable pub idled : Memory → Memory
-idled m = record { nodes = m.nodes; free = m.free; last = m.last; doing = Idle; rest = []; cut = []; depth = m.depth; totals = m.totals }
+idled m = record { nodes = m.nodes; free = m.free; last = m.last; doing = Idle; rest = []; cut = []; depth = m.depth; totals = m.totals; back = m.back }
 
 -- after the last store of a change: a first change that was in hand is made, which decides the call
 unfoldable pub settled_phase : Phase → Phase
@@ -77,5 +94,6 @@ advanced m [] =
       cut = [];
       depth = m.depth;
       totals = settled_totals m.doing m.totals;
+      back = m.back;
     }
-advanced m (s ∷ rest) = record { nodes = m.nodes; free = m.free; last = m.last; doing = m.doing; rest = s ∷ rest; cut = m.cut; depth = m.depth; totals = m.totals }
+advanced m (s ∷ rest) = record { nodes = m.nodes; free = m.free; last = m.last; doing = m.doing; rest = s ∷ rest; cut = m.cut; depth = m.depth; totals = m.totals; back = m.back }

@@ -63,13 +63,27 @@ unfoldable pub formatted_word : ℕ → ℕ → ℕ
 formatted_word n i =
     pick (eqb i 1) n (pick (eqb i 2) 8 (pick (eqb i 3) 24 (pick (eqb i root_place) formatted_root (pick (eqb i 8) 1 0))))
 
--- "0 in word 0, then every word from 1 to the last in rising order .., then 1 in word 0": the store after so many
+-- "0 in word 0, then every word from 1 to the last in rising order .., then 1 in word 0": the store after so many, with any words and any
+-- mark, since a card with two lines (document 02, W-207) is formatted alike and only "stores mark 2 last"
+abbrev pub store_by : (ℕ → ℕ) → ℕ → ℕ → ℕ → Option Store
+store_by word mark len made = pick (eqb made 0) (some (0, 0)) (pick (ltb made len) (some (made, word made)) (pick (eqb made len) (some (0, mark)) none))
+
 unfoldable pub format_store : ℕ → ℕ → ℕ → Option Store
-format_store n len made =
-    pick (eqb made 0) (some (0, 0)) (pick (ltb made len) (some (made, formatted_word n made)) (pick (eqb made len) (some (0, 1)) none))
+format_store n len made = store_by (formatted_word n) 1 len made
 
 unfoldable pub formatting_from : Memory → ℕ → Memory
-formatting_from m made = record { nodes = m.nodes; free = m.free; last = m.last; doing = Formatting made; rest = m.rest; cut = m.cut; depth = m.depth; totals = m.totals }
+formatting_from m made =
+    record {
+      nodes = m.nodes;
+      free = m.free;
+      last = m.last;
+      doing = Formatting made;
+      rest = m.rest;
+      cut = m.cut;
+      depth = m.depth;
+      totals = m.totals;
+      back = m.back;
+    }
 
 unfoldable pub step_format : List ℕ → Memory → ℕ → Option Store → Step
 step_format card m made none = step_final Ready card m

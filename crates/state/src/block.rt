@@ -5,8 +5,8 @@ ghost use Rattle.card_family.specs.Families.{family_count};
 ghost use Rattle.card_free.specs.NodeSet.{word_count, nodes_of};
 ghost use Rattle.state.specs.Memory.{resting};
 ghost use Rattle.state.specs.Steps.{is_idle, no_beginning};
-ghost use Rattle.state.specs.Block.{free_at, totals_at, state_words, part, phase_in, phase_word, doing_in, head_in, memory_in, doing_words, head_words};
-ghost use Rattle.state.specs.Blocks.{over, begun_block, resting_block};
+ghost use Rattle.state.specs.Block.{free_at, totals_at, lines_at, state_words, part, phase_in, phase_word, doing_in, head_in, memory_in, doing_words, head_words};
+ghost use Rattle.state.specs.Blocks.{over, end_words, begun_block, resting_block};
 ghost use Rattle.state.specs.Clauses.{Opened};
 
 use crate::{Begun, Doing, Phase, State};
@@ -15,7 +15,7 @@ use crate::{Begun, Doing, Phase, State};
 // plan made and planned; the nodes that the last store cuts out; the free nodes; the plan's places and values; of the update begun
 // last the internal nodes on its key's way then (document 02, W-203); the totals by family (W-204). Of a card with two lines (W-207) all
 // that is of the line worked last; then that line's number, or 0 on a card with one; the free nodes that it may not use; the limits of
-// the two lines, and the totals of the line at rest. The words after the 0 of a card with one line are nothing to it, and stay.
+// the two lines, and the totals of the line at rest. On a card with one line all of these are 0.
 pub const NODES: usize = 0;
 
 pub const LAST: usize = 1;
@@ -242,16 +242,28 @@ pub fn store_totals(block: &mut [u32], totals: &[u32])
     copy_words(&mut block[TOTALS..LINES], totals);
 }
 
+// What a state of a card with two lines has after the totals (document 02, W-207): the number of the line worked last, the free nodes that it
+// may not use, the two limits, and the totals of the line at rest.
+pub fn store_lines(block: &mut [u32], worked: u32, back: u32, first: u32, second: u32, rest: &[u32])
+    requires { (length block.old ≡ state_words) × (length rest.now ≡ family_count) }
+    ensures { block.new ≡ over block.old lines_at (end_words worked back first second rest.now) }
+{
+    block[LINES] = worked;
+    block[BACK] = back;
+    block[FIRST_LIMIT] = first;
+    block[SECOND_LIMIT] = second;
+    copy_words(&mut block[REST_TOTALS..STATE_WORDS], rest);
+}
+
 // Nothing is planned in a block for N nodes of a card with one line, whose words of the free nodes and of the totals are right already.
 // The search for a free node begins after `last`, the node taken for given last.
 pub fn store_resting(block: &mut [u32], n: usize, last: u32, doing: Doing)
     requires { (length block.old ≡ state_words) × (n ≤ greatest_nodes) }
-    ensures block_after { block.new ≡ resting_block block.old (resting n (nodes_of (part block.old free_at word_count)) last
+    ensures block_after { block.new ≡ resting_block (resting n (nodes_of (part block.old free_at word_count)) last
         (part block.old totals_at family_count) doing) }
     ensures block_after_2 { memory_in block.new ≡ resting n (nodes_of (part block.old free_at word_count)) last
         (part block.old totals_at family_count) doing }
 {
-    block[LINES] = 0;
     block[NODES] = n as u32;
     block[LAST] = last;
     block[MADE] = 0;
@@ -260,14 +272,15 @@ pub fn store_resting(block: &mut [u32], n: usize, last: u32, doing: Doing)
     block[CUT + 1] = 0;
     block[CUT + 2] = 0;
     store_doing(block, doing);
+    clear_words(&mut block[LINES..STATE_WORDS]);
     clear_words(&mut block[PLACES..TOTALS]);
 }
 
 // "Opening or starting to format, refused, hands back an idle state for N = 0".
 pub fn refuse_beginning(block: &mut [u32], refusal: u32) -> Begun
     requires { length block.old ≡ state_words }
-    ensures { Opened block.old block.new result (no_beginning refusal) }
+    ensures { Opened block.new result (no_beginning refusal) }
 {
-    clear_words(&mut block[0..BACK]);
+    clear_words(block);
     Begun::Refused(refusal)
 }

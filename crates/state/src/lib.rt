@@ -5,9 +5,11 @@
 pub mod block;
 mod families;
 mod holding;
+mod line_totals;
 
 pub use families::{Total, family_total};
 pub use holding::held_by;
+pub use line_totals::{family_total_of, line_worked};
 
 // How far an insert or a delete is: its first change is not begun; it is in hand; it is made, which decides the call, so that
 // repairs are left.

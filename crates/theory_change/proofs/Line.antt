@@ -4,7 +4,7 @@ use mathlib.Core.Path.{◌≡◌}
 use mathlib.Core.List.{List, [], ◌++◌}
 use mathlib.Core.Bool.{Bool, false}
 use mathlib.Core.Logic.{◌⊎◌, inl, inr}
-use Prim.Native.Nat.{ℕ, ◌+◌, ◌*◌, ◌≤◌, ◌<◌}
+use Prim.Native.Nat.{ℕ, ◌+◌, ◌-◌, ◌*◌, ◌≤◌, ◌<◌}
 use native.Mathlib.Omega.{arith}
 use lib.ListN.{length, get_or, length-append}
 use Rattle.card.specs.Layout.{root_place, place}
@@ -43,6 +43,10 @@ pub record Partition (line : Line) (free : List Bool) (t : Tree) : Type 0 where
   pub exact : ExactOver line.nodes free (λ m. node_total (indicator m) t + total (indicator m) line.others)
   pub fits : line.limit + length line.others ≤ line.nodes
 
+-- so many free nodes the line may not use: those that its limit and the other line's own nodes leave of N
+abbrev pub Reserved : Line → ℕ → Type 0
+Reserved line back = back + (line.limit + length line.others) ≡ line.nodes
+
 -- no node is reached twice, by the line's tree or by both
 abbrev pub Apart : Line → Tree → Type 0
 Apart line t = (i : ℕ) → node_total (indicator i) t + total (indicator i) line.others ≤ 1
@@ -68,13 +72,25 @@ abbrev pub Own : Line → ℕ → Type 0
 Own line p = (p ≡ root_place) ⊎ InNode line p
 
 module _ (line : Line) (free : List Bool) (t : Tree) (x : Partition line free t) where
-  -- what the limit leaves the bits have
-  pub room_in_bits : line.nodes < capacity → line.limit ≤ count_true free + size t
-  room_in_bits small =
+  -- each node is counted once
+  all_counted : line.nodes < capacity → count_true free + (size t + length line.others) ≡ line.nodes
+  all_counted small =
       let e =
       over_count line.nodes free (λ m. node_total (indicator m) t + total (indicator m) line.others) x.exact (numbers_in t ++ line.others) small
       (λ i. omega (arith, total_append (indicator i) (numbers_in t) line.others, numbers_total (indicator i) t)) in
-      omega (arith, e, x.fits, length-append (numbers_in t) line.others, numbers_total (λ m. 1) t, total_length (numbers_in t))
+      omega (arith, e, length-append (numbers_in t) line.others, numbers_total (λ m. 1) t, total_length (numbers_in t))
+
+  -- what the limit leaves the bits have
+  pub room_in_bits : line.nodes < capacity → line.limit ≤ count_true free + size t
+  room_in_bits small = omega (arith, all_counted small, x.fits)
+
+  module _ (back : ℕ) (e : Reserved line back) (small : line.nodes < capacity) (fits : size t ≤ line.limit) where
+    -- a line's room: "its limit less its own nodes" are the free nodes less those that it may not use
+    pub room_exact : (count_true free - back) + size t ≡ line.limit
+    room_exact = omega (arith, all_counted small, e, fits)
+
+    pub room_below : size t + (count_true free - back) ≤ line.limit
+    room_below = omega (arith, room_exact)
 
   -- node 0 is no node
   pub zero_taken : get_or free 0 false ≡ false

@@ -1,5 +1,5 @@
 -- Whole calls: each update runs to its end before the next, without cuts. What it answers or refuses, and the tree that it leaves, up
--- to node numbers, depend on N and on the tree before it up to node numbers, and on nothing else.
+-- to node numbers, depend on the line's limit (N on a card with one line) and on the tree before it up to node numbers, and on nothing else.
 use mathlib.Core.Path.{◌≡◌, refl, ap, ap₂, sym, subst, ◌∙◌}
 use mathlib.Core.List.{List, [], ◌∷◌}
 use mathlib.Core.Bool.{Bool, true, false, not}
@@ -11,7 +11,7 @@ use lib.Dec.{ltb}
 use borrow.Author.Tests.{lt-ltb, le-ltb}
 use Rattle.card.specs.Lines.{seen}
 use Rattle.call_start.proofs.StartLaws.{room_seen}
-use Rattle.theory_change.proofs.Line.{Line, Partition, only, size, count_only}
+use Rattle.theory_change.proofs.Line.{Line, Partition, size, room_exact}
 use Rattle.card.specs.Layout.{lowest_key, key_limit, node_at}
 use Rattle.walk.specs.Descent.{slot_of, first_equal}
 use Rattle.walk.specs.declared.Slot.{Slot}
@@ -39,6 +39,7 @@ use Rattle.theory_shapes.proofs.Bare.{bare, bare_pairs, bare_size}
 use Rattle.theory_shapes.proofs.Need.{leaf_need, need_of, need_leaf}
 use Rattle.call_start.specs.Starts.{insert_of, delete_of, start_accepted, start_depth, start_refused, room_of}
 use Rattle.call_start.proofs.StartLaws.{started_no_refusal}
+use Rattle.state.specs.Memory.{Memory}
 use Rattle.state.specs.Steps.{Handed, is_idle}
 use Rattle.state.specs.declared.Answer.{Answer}
 use Rattle.state.specs.declared.Begun.{Begun}
@@ -103,7 +104,7 @@ outcome n u t = pick (refuses n u t) (refused 8) (answered (dictionary_answer (l
 unfoldable pub leaves : ℕ → Update → Tree → Tree
 leaves n u t = pick (refuses n u t) t (after_shape u t)
 
--- ---- an idle table of N nodes whose tree, without numbers, is t
+-- ---- an idle table of a line whose tree, without numbers, is t
 
 pub record Resting (greatest : ℕ) (line : Line) (w : World (ration_table greatest)) (t : Tree) : Type 0 where
   pub steps : ℕ
@@ -196,29 +197,36 @@ module _ (greatest : ℕ) (line : Line) (steps : ℕ) (w : World (ration_table g
           by_key (At j) e = rw (e, found (At j) e)
           by_key NoSlot e = by_empty (slot_of (node_at w.card g.number) 0) refl e
 
-module _ (greatest : ℕ) (n steps : ℕ) (w : World (ration_table greatest)) (b : Book) (i : Inv greatest (only n) steps w b) (idle : w.state.doing ≡ Idle) where
+module _ (greatest : ℕ) (line : Line) (steps : ℕ) (w : World (ration_table greatest)) (b : Book) (i : Inv greatest line steps w b) (idle : w.state.doing ≡ Idle) where
   abbrev t : Tree
   t = bare i.tree
 
-  -- the tree at rest is the goal, and the bits count the room
-  pub resting_goal : (bare i.tree ≡ i.goal) × (count_true w.state.free + node_total (λ m. 1) (bare i.tree) ≡ n)
+  -- the tree at rest is the goal, and the room is what the limit leaves of it
+  pub resting_goal : (bare i.tree ≡ i.goal) × (room_of w.state + node_total (λ m. 1) (bare i.tree) ≡ line.limit)
   resting_goal = at (idle_or_busy i.stage).1
     where
-      at : (is_idle w.state.doing ≡ false) ⊎ ((free : List Bool) × (last : ℕ) × (w.state ≡ memory n free last w.state.depth w.state.totals Idle [] [])
-          × (table_violations i.tree ≡ 0) × (size i.tree + 3 ≤ n) × Partition (only n) free i.tree × (bare i.tree ≡ i.goal))
-          → (bare i.tree ≡ i.goal) × (count_true w.state.free + node_total (λ m. 1) (bare i.tree) ≡ n)
+      at : (is_idle w.state.doing ≡ false) ⊎ ((free : List Bool) × (last : ℕ) × (w.state ≡ memory line.nodes free last w.state.depth w.state.totals w.state.back Idle [] [])
+          × (table_violations i.tree ≡ 0) × (size i.tree + 3 ≤ line.limit) × Partition line free i.tree × (bare i.tree ≡ i.goal))
+          → (bare i.tree ≡ i.goal) × (room_of w.state + node_total (λ m. 1) (bare i.tree) ≡ line.limit)
       at (inl q) = absurd (idle_not_busy w.state.doing idle q)
-      at (inr (free, last, em, z, r, x, eg)) =
-          (eg, rw em (omega (arith, bare_size i.tree, count_only n free i.tree x (omega (arith, i.table.sized.most)))))
+      at (inr (free, last, em, z, r, x, eg)) = (
+        eg,
+        omega (
+          arith,
+          bare_size i.tree,
+          room_exact line free i.tree x w.state.back i.reserved (omega (arith, i.table.sized.most)) (omega (arith, r)),
+          ap (λ (m : Memory). count_true m.free) em,
+        ),
+      )
 
   -- an update starts, or is refused 8
-  pub start_decided : (u : Update) → lowest_key ≤ key_of u → key_of u < key_limit → (r : Bool) → refuses n u t ≡ r → starts greatest u w ≡ pick r (BegunRefused 8) Started
+  pub start_decided : (u : Update) → lowest_key ≤ key_of u → key_of u < key_limit → (r : Bool) → refuses line.limit u t ≡ r → starts greatest u w ≡ pick r (BegunRefused 8) Started
   unfolding refuses insert_of delete_of start_accepted start_refused
   start_decided (put key value) low high r e =
-      let d = room_decides greatest (only n) steps w b i key (Inserting key value NotBegun) (start_room (seen 1 w.card) key (room_of w.state)) idle low high in
+      let d = room_decides greatest line steps w b i key (Inserting key value NotBegun) (start_room (seen 1 w.card) key (room_of w.state)) idle low high in
       let q : start_room (seen 1 w.card) key (room_of w.state) (landing w.card w.state.nodes key) ≡ not r =
       room_seen 1 w.card key (room_of w.state) (landing w.card w.state.nodes key)
-      ∙ room_by_tree greatest (only n) steps w b i (room_of w.state) resting_goal.1 key value low high ∙ ap not e in
+      ∙ room_by_tree greatest line steps w b i (room_of w.state) resting_goal.1 key value low high ∙ ap not e in
       ap (λ (x : Handed). x.begun) (d ∙ ap (λ (x : Bool). pick x
       (start_accepted w.state (Inserting key value NotBegun) (start_depth 1 w.card w.state key)) (start_refused 8 w.state)) q) ∙ at r
     where
@@ -227,18 +235,18 @@ module _ (greatest : ℕ) (n steps : ℕ) (w : World (ration_table greatest)) (b
       at true = refl
       at false = refl
   start_decided (remove key) low high true e = impossible (cc)
-  start_decided (remove key) low high false e = ap (λ (x : Handed). x.begun) (room_decides greatest (only n) steps w b i key (Deleting key NotBegun 0) (λ x. true) idle low high)
+  start_decided (remove key) low high false e = ap (λ (x : Handed). x.begun) (room_decides greatest line steps w b i key (Deleting key NotBegun 0) (λ x. true) idle low high)
 
   -- what a start that is not refused leaves
   pub begun_right : (u : Update) → key_of u < key_limit → starts greatest u w ≡ Started
-      → (k : ℕ) × (l : Book) × (j : Inv greatest (only n) k (happens (ration_table greatest) (event u) w) l) × (j.goal ≡ after_shape u i.goal)
+      → (k : ℕ) × (l : Book) × (j : Inv greatest line k (happens (ration_table greatest) (event u) w) l) × (j.goal ≡ after_shape u i.goal)
       × (j.due ≡ dictionary_answer (lookup (key_of u) (pairs t))) × (is_idle (happens (ration_table greatest) (event u) w).state.doing ≡ false)
   unfolding happens
   begun_right (put key value) high e =
-      let q = kept_insert greatest n steps w b i key value high in
+      let q = kept_insert greatest line steps w b i key value high in
       (q.0, _, q.1, q.2.new_goal e, q.2.new_due e ∙ ap dictionary_answer (sym (same_lookup greatest i key) ∙ ap (lookup key) (sym (bare_pairs i.tree))), q.2.busy e)
   begun_right (remove key) high e =
-      let q = kept_delete greatest (only n) steps w b i key high in
+      let q = kept_delete greatest line steps w b i key high in
       (q.0, _, q.1, q.2.new_goal e, q.2.new_due e ∙ ap dictionary_answer (sym (same_lookup greatest i key) ∙ ap (lookup key) (sym (bare_pairs i.tree))), q.2.busy e)
 
 refused_same : {r s : ℕ} → ◌≡◌ {A = Begun} (BegunRefused r) (BegunRefused s) → r ≡ s
@@ -252,24 +260,24 @@ outcome_answered : (n : ℕ) (u : Update) (t : Tree) → refuses n u t ≡ false
 unfolding outcome leaves
 outcome_answered n u t e = (rw e, rw e)
 
--- ONE WHOLE UPDATE: its outcome, and what it leaves, are functions of N and of the tree without numbers
-pub one_whole : (greatest : ℕ) {u : Update} {w v : World (ration_table greatest)} {o : Outcome} → Whole greatest u w v o → (n : ℕ) (t : Tree) → Resting greatest (only n) w t
-    → lowest_key ≤ key_of u → key_of u < key_limit → (o ≡ outcome n u t) × Resting greatest (only n) v (leaves n u t)
-one_whole greatest {u} (not_begun {w} r e) n t x low high =
+-- ONE WHOLE UPDATE: its outcome, and what it leaves, are functions of the line's limit and of the tree without numbers
+pub one_whole : (greatest : ℕ) {u : Update} {w v : World (ration_table greatest)} {o : Outcome} → Whole greatest u w v o → (line : Line) (t : Tree) → Resting greatest line w t
+    → lowest_key ≤ key_of u → key_of u < key_limit → (o ≡ outcome line.limit u t) × Resting greatest line v (leaves line.limit u t)
+one_whole greatest {u} (not_begun {w} r e) line t x low high =
     let i = x.inv in
-    let now : bare i.tree ≡ t = (resting_goal greatest n x.steps w x.book i x.idle).0 ∙ x.goal in
-    bool_cases (refuses n u t)
-    (λ d. let s = start_decided greatest n x.steps w x.book i x.idle u low high true (ap (refuses n u) now ∙ d) in
-    let z = outcome_refused n u t d in (ap refused (refused_same (sym e ∙ s)) ∙ sym z.0, rw z.1 x))
-    (λ d. let s = start_decided greatest n x.steps w x.book i x.idle u low high false (ap (refuses n u) now ∙ d) in absurd (started_no_refusal _ (sym s ∙ e)))
-one_whole greatest {u} (worked {w} {v} {a} e ends) n t x low high =
+    let now : bare i.tree ≡ t = (resting_goal greatest line x.steps w x.book i x.idle).0 ∙ x.goal in
+    bool_cases (refuses line.limit u t)
+    (λ d. let s = start_decided greatest line x.steps w x.book i x.idle u low high true (ap (refuses line.limit u) now ∙ d) in
+    let z = outcome_refused line.limit u t d in (ap refused (refused_same (sym e ∙ s)) ∙ sym z.0, rw z.1 x))
+    (λ d. let s = start_decided greatest line x.steps w x.book i x.idle u low high false (ap (refuses line.limit u) now ∙ d) in absurd (started_no_refusal _ (sym s ∙ e)))
+one_whole greatest {u} (worked {w} {v} {a} e ends) line t x low high =
     let i = x.inv in
-    let now : bare i.tree ≡ t = (resting_goal greatest n x.steps w x.book i x.idle).0 ∙ x.goal in
-    bool_cases (refuses n u t)
-    (λ d. let s = start_decided greatest n x.steps w x.book i x.idle u low high true (ap (refuses n u) now ∙ d) in absurd (started_no_refusal _ (sym e ∙ s)))
-    (λ d. let q = begun_right greatest n x.steps w x.book i x.idle u high e in
-    let z = outcome_answered n u t d in
-    let y = ends_at greatest ends (only n) q.0 q.1 q.2 (after_shape u t) (q.3 ∙ ap (after_shape u) x.goal) q.5 in
+    let now : bare i.tree ≡ t = (resting_goal greatest line x.steps w x.book i x.idle).0 ∙ x.goal in
+    bool_cases (refuses line.limit u t)
+    (λ d. let s = start_decided greatest line x.steps w x.book i x.idle u low high true (ap (refuses line.limit u) now ∙ d) in absurd (started_no_refusal _ (sym e ∙ s)))
+    (λ d. let q = begun_right greatest line x.steps w x.book i x.idle u high e in
+    let z = outcome_answered line.limit u t d in
+    let y = ends_at greatest ends line q.0 q.1 q.2 (after_shape u t) (q.3 ∙ ap (after_shape u) x.goal) q.5 in
     (ap answered (y.0 ∙ q.4 ∙ ap (λ (p : Tree). dictionary_answer (lookup (key_of u) (pairs p))) now) ∙ sym z.0, rw z.1 y.1))
 
 -- ---- lists of calls
@@ -287,15 +295,23 @@ Keys [] = Unit
 Keys (u ∷ us) = (lowest_key ≤ key_of u) × (key_of u < key_limit) × Keys us
 
 pub whole_runs : (greatest : ℕ) {us : List Update} {w v : World (ration_table greatest)} {os : List Outcome} → Runs greatest us w v os
-    → (n : ℕ) (t : Tree) → Resting greatest (only n) w t → Keys us → (os ≡ outcomes n us t) × Resting greatest (only n) v (shape_left n us t)
-whole_runs greatest no_more n t x k = (refl, x)
-whole_runs greatest (one_more {u} {us} c rest) n t x k =
-    let p = one_whole greatest c n t x k.0 k.1 in
-    let q = whole_runs greatest rest n (leaves n u t) p.1 k.2 in
+    → (line : Line) (t : Tree) → Resting greatest line w t → Keys us → (os ≡ outcomes line.limit us t) × Resting greatest line v (shape_left line.limit us t)
+whole_runs greatest no_more line t x k = (refl, x)
+whole_runs greatest (one_more {u} {us} c rest) line t x k =
+    let p = one_whole greatest c line t x k.0 k.1 in
+    let q = whole_runs greatest rest line (leaves line.limit u t) p.1 k.2 in
     (ap₂ (λ (o : Outcome) (os : List Outcome). o ∷ os) p.0 q.0, q.1)
 
--- NODE NUMBERS DO NOT MATTER: two tables of the same N whose trees are alike give the same outcomes to the same calls, and stay alike
+-- NODE NUMBERS DO NOT MATTER, nor what else is on the card: two lines of the same limit whose trees are alike give the same outcomes to
+-- the same calls, and stay alike
 pub same_outcomes : (greatest : ℕ) {us : List Update} {w v w' v' : World (ration_table greatest)} {os os' : List Outcome}
-    → Runs greatest us w v os → Runs greatest us w' v' os' → (n : ℕ) (t : Tree) → Resting greatest (only n) w t → Resting greatest (only n) w' t → Keys us
-    → (os ≡ os') × (s : Tree) × Resting greatest (only n) v s × Resting greatest (only n) v' s
-same_outcomes greatest {us} a b n t x y k = let p = whole_runs greatest a n t x k in let q = whole_runs greatest b n t y k in (p.0 ∙ sym q.0, shape_left n us t, p.1, q.1)
+    → Runs greatest us w v os → Runs greatest us w' v' os' → (line line' : Line) → line.limit ≡ line'.limit → (t : Tree)
+    → Resting greatest line w t → Resting greatest line' w' t → Keys us → (os ≡ os') × (s : Tree) × Resting greatest line v s × Resting greatest line' v' s
+same_outcomes greatest {us} {v' = v'} a b line line' e t x y k =
+    let p = whole_runs greatest a line t x k in
+    let q = whole_runs greatest b line' t y k in (
+      p.0 ∙ ap (λ (m : ℕ). outcomes m us t) e ∙ sym q.0,
+      shape_left line.limit us t,
+      p.1,
+      subst (λ (m : ℕ). Resting greatest line' v' (shape_left m us t)) (sym e) q.1,
+    )

@@ -6,5 +6,9 @@ pub mod SameAnswers
 -- LINES APART, the induction over lists of calls, with what one whole call of either line does as its premise: a call of a line has the
 -- outcome that its own limit and tree give, and leaves the other line's tree as it is
 pub mod Lines
+-- and that premise, on a card with two lines: what one line does is the same whatever the other does
+pub mod TwoApart
+-- the depths, family totals and finds there, by the line's own tree
+pub mod TwoTold
 -- bench cards I, J, K and L2 on trees without numbers: the functions that show the promise compute
 pub mod BareCards

@@ -49,21 +49,21 @@ at_rest_resting greatest {w} a t h = go (rw a.now at (kept_from greatest a.begin
           book = _;
           inv = i;
           idle = a.idle;
-          goal = sym (resting_goal greatest n k w _ i a.idle).0 ∙ ap bare (one_held w.card i.tree t i.table.holds h);
+          goal = sym (resting_goal greatest (only n) k w _ i a.idle).0 ∙ ap bare (one_held w.card i.tree t i.table.holds h);
         } in
         subst (λ (x : ℕ). Resting greatest (only x) w (bare t)) (sym e) r
 
 -- what stands on the card then
 resting_held : (greatest : ℕ) {n : ℕ} {w : World (ration_table greatest)} {s : Tree} → Resting greatest (only n) w s → (t : Tree) × Holds w.card t × (bare t ≡ s)
-resting_held greatest {n} {w} x = (x.inv.tree, x.inv.table.holds, (resting_goal greatest n x.steps w x.book x.inv x.idle).0 ∙ x.goal)
+resting_held greatest {n} {w} x = (x.inv.tree, x.inv.table.holds, (resting_goal greatest (only n) x.steps w x.book x.inv x.idle).0 ∙ x.goal)
 
 pub same_answers : (greatest : ℕ) {w w' v v' : World (ration_table greatest)} {us : List Update} {os os' : List Outcome} → AtRest greatest w → AtRest greatest w'
     → w.state.nodes ≡ w'.state.nodes → (t t' : Tree) → Holds w.card t → Holds w'.card t' → Alike t t' → Keys us
     → Runs greatest us w v os → Runs greatest us w' v' os' → (os ≡ os') × (s : Tree) × (s' : Tree) × Holds v.card s × Holds v'.card s' × Alike s s'
 same_answers greatest {w} {w'} a a' en t t' h h' e k r r' =
     let q =
-    same_outcomes greatest r r' w.state.nodes (bare t) (at_rest_resting greatest a t h) (subst (λ (x : ℕ). Resting greatest (only x) w' (bare t)) (sym en)
-    (subst (λ (s : Tree). Resting greatest (only w'.state.nodes) w' s) (sym e) (at_rest_resting greatest a' t' h'))) k in
+    same_outcomes greatest r r' (only w.state.nodes) (only w'.state.nodes) en (bare t) (at_rest_resting greatest a t h)
+    (subst (λ (s : Tree). Resting greatest (only w'.state.nodes) w' s) (sym e) (at_rest_resting greatest a' t' h')) k in
     let x = resting_held greatest q.2 in
     let y = resting_held greatest q.3 in
     (q.0, x.0, y.0, x.1, y.1, x.2 ∙ sym y.2)

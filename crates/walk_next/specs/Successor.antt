@@ -5,6 +5,7 @@ use Rattle.std.proofs.Math.Option.{Option, none, some}
 use Rattle.laws.specs.Cases.{pick}
 use Rattle.card.specs.Lines.{has_line, seen}
 use Rattle.card.specs.Header.{card_refusal, nodes_of_length}
+use Rattle.card.specs.Forms.{any_refusal}
 use Rattle.card.specs.Layout.{depth_limit, key_limit, node_at, leaf_pairs}
 use Rattle.card.specs.Replies.{Reply, refusal, nothing, next}
 use Rattle.walk.specs.Descent.{root_position, Way, way_from, way, leaf_of, depth_of, beside_all}
@@ -79,6 +80,12 @@ next_of greatest line card after =
     pick (eqb (card_refusal greatest card) 0)
     (pick (has_line card line) (next_in (seen line card) (nodes_of_length greatest (length card)) after) (Refused 18)) (Refused (card_refusal greatest card))
 
+-- the same on a card of either form: 1, 2, 3, 17, 18 and 9
+unfoldable pub next_on : ℕ → ℕ → List ℕ → ℕ → Successor
+next_on greatest line card after =
+    pick (eqb (any_refusal greatest card) 0)
+    (pick (has_line card line) (next_in (seen line card) (nodes_of_length greatest (length card)) after) (Refused 18)) (Refused (any_refusal greatest card))
+
 -- ---- document 02, W-203: "the number of internal nodes on the given number's way when the call began, tagged ones counted"
 
 -- "A refusal carries none."
@@ -90,6 +97,9 @@ carried depth (Refused r) = 0
 -- the number's own way, also where the answer is in the next leaf
 unfoldable pub next_depth : ℕ → ℕ → List ℕ → ℕ → ℕ
 next_depth greatest line card after = carried (depth_of (leaf_of (way (seen line card) (nodes_of_length greatest (length card)) after))) (next_of greatest line card after)
+
+unfoldable pub next_depth_on : ℕ → ℕ → List ℕ → ℕ → ℕ
+next_depth_on greatest line card after = carried (depth_of (leaf_of (way (seen line card) (nodes_of_length greatest (length card)) after))) (next_on greatest line card after)
 
 -- ---- "Walking an unchanged card from 0 lists each pair once, rising": at most so many pairs, from those above a number on
 
