@@ -9,23 +9,22 @@ use borrow.Author.Rules.{rules}
 use Rattle.state.proofs.block.refuse_beginning.Statement.{statement}
 use Rattle.state.proofs.block.refuse_beginning.Tie as tie
 
-clear-words-requires : tie.Need-clear-words-requires
-clear-words-requires c κs = search rules
+clear_words-requires : tie.Need-clear_words-requires
+clear_words-requires c κs = search rules
 
-same_length : tie.Need-same-length
-same_length c = search rules
+shape_of-block : tie.Need-shape_of-block
+shape_of-block c = search rules
 
 returns : tie.Need-returns
 unfolding no_beginning
 returns c =
-    let s = c.before.before.before.before.before in
-    let zeros : c.before.before.clear-words.new.0 ≡ replicate state_words 0 = c.before.before.clear-words.ensures ∙ ap (λ (k : ℕ). replicate k 0) s.requires in
+    let zeros : c.clear_words.new.words ≡ replicate state_words 0 = c.clear_words.ensures ∙ ap (λ (k : ℕ). replicate k 0) c.requires in
     record { answered = refl; handed = ap memory_in zeros ∙ memory_none; words = zeros ∙ none_block }
 
 pub refuse_beginning_spec : {M : Type 1} → statement M
 refuse_beginning_spec =
     tie.close
     (tie.spec
-    clear-words-requires
-    same_length
+    clear_words-requires
+    shape_of-block
     returns)

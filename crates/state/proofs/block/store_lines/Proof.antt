@@ -19,58 +19,55 @@ four block worked back first second = set (set (set (set block lines_at worked) 
 four_long : (block : List ℕ) (worked back first second : ℕ) → length (four block worked back first second) ≡ length block
 four_long block worked back first second = simp length-set
 
-slice-write-block : tie.Need-slice-write-block
-slice-write-block c = search rules
+bounds-block-256 : tie.Need-bounds-block-256
+bounds-block-256 c = search rules
 
-slice-write-block-2 : tie.Need-slice-write-block-2
-slice-write-block-2 c = search rules
+bounds-block-257 : tie.Need-bounds-block-257
+bounds-block-257 c = search rules
 
-slice-write-block-3 : tie.Need-slice-write-block-3
-slice-write-block-3 c = search rules
+bounds-block-258 : tie.Need-bounds-block-258
+bounds-block-258 c = search rules
 
-slice-write-block-4 : tie.Need-slice-write-block-4
-slice-write-block-4 c = search rules
+bounds-block-259 : tie.Need-bounds-block-259
+bounds-block-259 c = search rules
 
-sub-copy-words : tie.Need-overflow-sub-copy-words
-sub-copy-words c = search rules
+slice_bounds-copy_words-count : tie.Need-slice_bounds-copy_words-count
+slice_bounds-copy_words-count c = search rules
 
-part-copy-words-start : tie.Need-slice-bounds-copy-words-start
-part-copy-words-start c = search rules
+slice_bounds-copy_words-start : tie.Need-slice_bounds-copy_words-start
+slice_bounds-copy_words-start c = search rules
 
-part-copy-words-end : tie.Need-slice-bounds-copy-words-end
-part-copy-words-end c =
-    let s = c.before.before in
-    omega (arith, s.requires.0, four_long s.args.block.now s.args.worked s.args.back s.args.first s.args.second)
+slice_bounds-copy_words-end : tie.Need-slice_bounds-copy_words-end
+slice_bounds-copy_words-end c =
+    omega (arith, c.requires.0, four_long c.args.block.now c.args.worked c.args.back c.args.first c.args.second)
 
-copy-words-requires : tie.Need-copy-words-requires
-copy-words-requires c κs = search rules
+copy_words-requires : tie.Need-copy_words-requires
+copy_words-requires c κs = search rules
 
-same_length : tie.Need-same-length
-same_length c =
-    let s = c.before.before.before.before.before.before in
-    let block = four s.args.block.now s.args.worked s.args.back s.args.first s.args.second in
-    let long = four_long s.args.block.now s.args.worked s.args.back s.args.first s.args.second in
-    placed_length block c.before.before.copy-words.new.0 rest_totals_at family_count
-    (ap length c.before.before.copy-words.ensures ∙ s.requires.1) (omega (arith, long, s.requires.0)) ∙ long
+shape_of-block : tie.Need-shape_of-block
+shape_of-block c =
+    let block = four c.args.block.now c.args.worked c.args.back c.args.first c.args.second in
+    let long = four_long c.args.block.now c.args.worked c.args.back c.args.first c.args.second in
+    placed_length block c.copy_words.new.to rest_totals_at family_count
+    (ap length c.copy_words.ensures ∙ c.requires.1) (omega (arith, long, c.requires.0)) ∙ long
 
 returns : tie.Need-returns
 returns c =
-    let s = c.before.before.before.before.before.before in
-    ap (placed rest_totals_at family_count (four s.args.block.now s.args.worked s.args.back s.args.first s.args.second))
-    c.before.before.copy-words.ensures
-    ∙ lines_stored s.args.block.now s.args.rest.now s.args.worked s.args.back s.args.first s.args.second s.requires.0 s.requires.1
+    ap (placed rest_totals_at family_count (four c.args.block.now c.args.worked c.args.back c.args.first c.args.second))
+    c.copy_words.ensures
+    ∙ lines_stored c.args.block.now c.args.rest.now c.args.worked c.args.back c.args.first c.args.second c.requires.0 c.requires.1
 
 pub store_lines_spec : {M : Type 1} → statement M
 store_lines_spec =
     tie.close
     (tie.spec
-    slice-write-block
-    slice-write-block-2
-    slice-write-block-3
-    slice-write-block-4
-    sub-copy-words
-    part-copy-words-start
-    part-copy-words-end
-    copy-words-requires
-    same_length
+    bounds-block-256
+    bounds-block-257
+    bounds-block-258
+    bounds-block-259
+    slice_bounds-copy_words-count
+    slice_bounds-copy_words-start
+    slice_bounds-copy_words-end
+    copy_words-requires
+    shape_of-block
     returns)

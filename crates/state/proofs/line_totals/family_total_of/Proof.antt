@@ -11,84 +11,80 @@ use Rattle.state.proofs.CardBlocks.{total_no_line, total_no_family, total_told, 
 use Rattle.state.proofs.line_totals.family_total_of.Statement.{statement}
 use Rattle.state.proofs.line_totals.family_total_of.Tie as tie
 
-returns : tie.Need-returns
-returns c = record { told = λ l. absurd (c.if1.true l); no_state_lem = λ n. refl }
+returns-then-state-ne-STATE_WORDS : tie.Need-returns-then-state-ne-STATE_WORDS
+returns-then-state-ne-STATE_WORDS c = record { told = λ l. absurd (c.if-state-ne-STATE_WORDS.true l); no_state_lem = λ n. refl }
 
-shared-slice-read-worked : tie.Need-shared-slice-read-worked
-shared-slice-read-worked c = search rules
+bounds-state-256 : tie.Need-bounds-state-256
+bounds-state-256 c = search rules
 
-knows-line-requires : tie.Need-knows-line-requires
-knows-line-requires c κs = search rules
+knows_line-requires : tie.Need-knows_line-requires
+knows_line-requires c κs = search rules
 
-returns-2 : tie.Need-returns-2
-returns-2 c =
-    let s = c.before.before.before.before.before in
+returns-then-not-knows_line : tie.Need-returns-then-not-knows_line
+returns-then-not-knows_line c =
     record {
-      told = λ l. sym (total_no_line s.args.state.now s.args.line _ (sym c.before.Knows-Line.ensures ∙ not-true _ c.if2.true));
-      no_state_lem = λ n. absurd (n c.before.before.before.if1.false);
+      told = λ l. sym (total_no_line c.args.state.now c.args.line _ (sym c.knows_line.ensures ∙ c.if-not-knows_line.true));
+      no_state_lem = λ n. absurd (n c.if-state-ne-STATE_WORDS.false);
     }
 
 wide-requires : tie.Need-wide-requires
 wide-requires c κs = search rules
 
-returns-3 : tie.Need-returns-3
-returns-3 c =
-    let s = c.before.before.before.before.before.before.before in
+returns-then-wide-ge-FAMILIES : tie.Need-returns-then-wide-ge-FAMILIES
+returns-then-wide-ge-FAMILIES c =
     record {
-      told = λ l. sym (total_no_family s.args.state.now s.args.line _ (sym c.before.before.before.Knows-Line.ensures
-          ∙ not-false _ c.before.before.if2.false) (omega (arith, c.if3.true, c.before.wide.ensures)));
-      no_state_lem = λ n. absurd (n c.before.before.before.before.before.if1.false);
+      told = λ l. sym (total_no_family c.args.state.now c.args.line _ (sym c.knows_line.ensures
+          ∙ c.if-not-knows_line.false) (omega (arith, c.if-wide-ge-FAMILIES.true, c.wide.ensures)));
+      no_state_lem = λ n. absurd (n c.if-state-ne-STATE_WORDS.false);
     }
 
-totals-of-requires : tie.Need-totals-of-requires
-totals-of-requires c κs = search rules
+totals_of-requires : tie.Need-totals_of-requires
+totals_of-requires c κs = search rules
 
 wide-requires-2 : tie.Need-wide-requires-2
 wide-requires-2 c κs = search rules
 
-add-t11 : tie.Need-overflow-add-t11
-add-t11 c = omega (arith, c.before.totals-of.ensures.1, c.wide2.ensures, c.before.before.if3.false, c.before.before.before.wide.ensures)
+overflow_add-result : tie.Need-overflow_add-result
+overflow_add-result c = omega (arith, c.totals_of.ensures.1, c.wide-2.ensures, c.if-wide-ge-FAMILIES.false, c.wide.ensures)
 
-mul-t12 : tie.Need-overflow-mul-t12
-mul-t12 c = omega (arith, c.before.totals-of.ensures.1, c.wide2.ensures, c.before.before.if3.false, c.before.before.before.wide.ensures)
+offset_bounds-state-totals_of : tie.Need-offset_bounds-state-totals_of
+offset_bounds-state-totals_of c = omega (arith, c.totals_of.ensures.1, c.wide-2.ensures, c.if-wide-ge-FAMILIES.false, c.wide.ensures)
 
-shared-slice-read-t8 : tie.Need-shared-slice-read-t8
-shared-slice-read-t8 c =
-    let s = c.before.before.before.before.before.before.before.before.before.before in
+bounds-state-totals_of : tie.Need-bounds-state-totals_of
+bounds-state-totals_of c =
     omega (
       arith,
-      c.before.before.totals-of.ensures.1,
-      c.before.wide2.ensures,
-      c.before.before.before.if3.false,
-      c.before.before.before.before.wide.ensures,
-      c.before.before.before.before.before.before.before.before.if1.false,
+      c.totals_of.ensures.1,
+      c.wide-2.ensures,
+      c.if-wide-ge-FAMILIES.false,
+      c.wide.ensures,
+      c.if-state-ne-STATE_WORDS.false,
     )
 
-returns-4 : tie.Need-returns-4
-returns-4 c =
-    let s = c.before.before.before.before.before.before.before.before.before.before in
-    let few : s.args.family < family_count = omega (arith, c.before.before.before.if3.false, c.before.before.before.before.wide.ensures) in
+returns : tie.Need-returns
+returns c =
+    let few : c.args.family < family_count = omega (arith, c.if-wide-ge-FAMILIES.false, c.wide.ensures) in
     record {
-      told = λ l. ap Pairs (ap₂ (λ (a b : ℕ). block_word s.args.state.now (a + b)) c.before.before.totals-of.ensures.0 c.before.wide2.ensures
-          ∙ sym (total_read s.args.state.now s.args.line s.args.family few))
-          ∙ sym (total_told s.args.state.now s.args.line s.args.family (sym c.before.before.before.before.before.before.Knows-Line.ensures
-          ∙ not-false _ c.before.before.before.before.before.if2.false) few);
-      no_state_lem = λ n. absurd (n c.before.before.before.before.before.before.before.before.if1.false);
+      told = λ l. ap Pairs (ap₂ (λ (a b : ℕ). block_word c.args.state.now (a + b)) c.totals_of.ensures.0 c.wide-2.ensures
+          ∙ sym (total_read c.args.state.now c.args.line c.args.family few))
+          ∙ sym (total_told c.args.state.now c.args.line c.args.family (sym c.knows_line.ensures
+          ∙ c.if-not-knows_line.false) few);
+      no_state_lem = λ n. absurd (n c.if-state-ne-STATE_WORDS.false);
     }
 
 pub family_total_of_spec : {M : Type 1} → statement M
 family_total_of_spec =
     tie.close
     (tie.spec
-    returns
-    shared-slice-read-worked
-    knows-line-requires
-    returns-2
+    returns-then-state-ne-STATE_WORDS
+    bounds-state-256
+    knows_line-requires
+    returns-then-not-knows_line
     wide-requires
-    returns-3
-    totals-of-requires
+    returns-then-wide-ge-FAMILIES
+    totals_of-requires
     wide-requires-2
-    add-t11
-    mul-t12
-    shared-slice-read-t8
-    returns-4)
+    overflow_add-result
+    offset_bounds-state-totals_of
+    bounds-state-totals_of
+    returns)
