@@ -16,63 +16,60 @@ use borrow.Author.Rules.{rules}
 use Rattle.call_open.proofs.open.Statement.{statement}
 use Rattle.call_open.proofs.open.Tie as tie
 
-whole : (c : tie.After-nodes-of) → Sized c.before.before.before.before.before.before.args.greatest
-    (length c.before.before.before.before.before.before.args.card.now) c.nodes-of.result
+whole : (c : tie.After-nodes_of) → Sized c.args.greatest
+    (length c.args.card.now) c.nodes_of.result
 whole c =
-    let s = c.before.before.before.before.before.before in
-    sized s.args.greatest s.args.card.now c.nodes-of.result c.nodes-of.ensures
-    (λ z. card_sized _ s.args.card.now (sym c.before.before.card-refusal.ensures ∙ c.before.if2.false) (sym c.nodes-of.ensures ∙ z))
+    sized c.args.greatest c.args.card.now c.nodes_of.result c.nodes_of.ensures
+    (λ z. card_sized _ c.args.card.now (sym c.card_refusal-refusal.ensures ∙ c.if-refusal-ne0.false) (sym c.nodes_of.ensures ∙ z))
+
+returns-then-state-ne-STATE_WORDS : tie.Need-returns-then-state-ne-STATE_WORDS
+returns-then-state-ne-STATE_WORDS c = open_no_state c.args.state.now c.if-state-ne-STATE_WORDS.true (open_of c.args.greatest c.args.card.now)
+
+card_refusal-refusal-requires : tie.Need-card_refusal-refusal-requires
+card_refusal-refusal-requires c κs = search rules
+
+refuse_beginning-requires : tie.Need-refuse_beginning-requires
+refuse_beginning-requires c κs = search rules
+
+shape_of-state-then-refusal-ne0 : tie.Need-shape_of-state-then-refusal-ne0
+shape_of-state-then-refusal-ne0 c = search rules
+
+returns-then-refusal-ne0 : tie.Need-returns-then-refusal-ne0
+returns-then-refusal-ne0 c =
+    opened_call c.args.state.now c.refuse_beginning.new.block _ _ c.if-state-ne-STATE_WORDS.false
+    (subst (λ (due : Handed). Opened c.refuse_beginning.new.block c.refuse_beginning.result due)
+    (ap no_beginning c.card_refusal-refusal.ensures
+    ∙ sym (open_refused _ _ (λ z. c.if-refusal-ne0.true (c.card_refusal-refusal.ensures ∙ z))))
+    c.refuse_beginning.ensures)
+
+nodes_of-requires : tie.Need-nodes_of-requires
+nodes_of-requires c κs = search rules
+
+open_checked-requires : tie.Need-open_checked-requires
+open_checked-requires c κs = let k = whole c.before in (k.words, k.most, c.if-state-ne-STATE_WORDS.false)
+
+shape_of-state : tie.Need-shape_of-state
+shape_of-state c = search rules
 
 returns : tie.Need-returns
-returns c = let s = c.before.before.before in open_no_state s.args.state.now c.if1.true (open_of s.args.greatest s.args.card.now)
-
-card-refusal-requires : tie.Need-card-refusal-requires
-card-refusal-requires c κs = search rules
-
-refuse-beginning-requires : tie.Need-refuse-beginning-requires
-refuse-beginning-requires c κs = search rules
-
-same_length : tie.Need-same-length
-same_length c = search rules
-
-returns-2 : tie.Need-returns-2
-returns-2 c =
-    let s = c.before.before.before.before.before.before.before.before.before in
-    opened_call s.args.state.now c.before.before.refuse-beginning.new.0 _ _ c.before.before.before.before.before.before.if1.false
-    (subst (λ (due : Handed). Opened c.before.before.refuse-beginning.new.0 c.before.before.refuse-beginning.result due)
-    (ap no_beginning c.before.before.before.before.before.card-refusal.ensures
-    ∙ sym (open_refused _ _ (λ z. c.before.before.before.before.if2.true (c.before.before.before.before.before.card-refusal.ensures ∙ z))))
-    c.before.before.refuse-beginning.ensures)
-
-nodes-of-requires : tie.Need-nodes-of-requires
-nodes-of-requires c κs = search rules
-
-open-checked-requires : tie.Need-open-checked-requires
-open-checked-requires c κs = let k = whole c.before in (k.words, k.most, c.before.before.before.before.if1.false)
-
-same-length-2 : tie.Need-same-length-2
-same-length-2 c = search rules
-
-returns-3 : tie.Need-returns-3
-returns-3 c =
-    let s = c.before.before.before.before.before.before.before.before.before.before in
-    opened_call s.args.state.now c.before.before.open-checked.new.1.1.0 _ _ c.before.before.before.before.before.before.before.if1.false
-    (subst (λ (due : Handed). Opened c.before.before.open-checked.new.1.1.0 c.before.before.open-checked.result due)
-    (ap (λ (n : ℕ). open_checked n (search_start s.args.card.now) (table_counted s.args.card.now) (table_check s.args.card.now n)) c.before.before.before.before.nodes-of.ensures
+returns c =
+    opened_call c.args.state.now c.open_checked.new.state _ _ c.if-state-ne-STATE_WORDS.false
+    (subst (λ (due : Handed). Opened c.open_checked.new.state c.open_checked.result due)
+    (ap (λ (n : ℕ). open_checked n (search_start c.args.card.now) (table_counted c.args.card.now) (table_check c.args.card.now n)) c.nodes_of.ensures
     ∙ sym (open_unrefused _ _
-    (sym c.before.before.before.before.before.before.card-refusal.ensures ∙ c.before.before.before.before.before.if2.false)))
-    c.before.before.open-checked.ensures)
+    (sym c.card_refusal-refusal.ensures ∙ c.if-refusal-ne0.false)))
+    c.open_checked.ensures)
 
 pub open_spec : {M : Type 1} → statement M
 open_spec =
     tie.close
     (tie.spec
-    returns
-    card-refusal-requires
-    refuse-beginning-requires
-    same_length
-    returns-2
-    nodes-of-requires
-    open-checked-requires
-    same-length-2
-    returns-3)
+    returns-then-state-ne-STATE_WORDS
+    card_refusal-refusal-requires
+    refuse_beginning-requires
+    shape_of-state-then-refusal-ne0
+    returns-then-refusal-ne0
+    nodes_of-requires
+    open_checked-requires
+    shape_of-state
+    returns)

@@ -15,121 +15,117 @@ use borrow.Author.Rules.{rules}
 use Rattle.call_open.proofs.open_sound.Statement.{statement}
 use Rattle.call_open.proofs.open_sound.Tie as tie
 
-sub-count : tie.Need-overflow-sub-count
-sub-count c = search rules
+slice_bounds-count-count : tie.Need-slice_bounds-count-count
+slice_bounds-count-count c = search rules
 
-part-count-start : tie.Need-slice-bounds-count-start
-part-count-start c = search rules
+slice_bounds-count-start : tie.Need-slice_bounds-count-start
+slice_bounds-count-start c = search rules
 
-part-count-end : tie.Need-slice-bounds-count-end
-part-count-end c = search rules
+slice_bounds-count-end : tie.Need-slice_bounds-count-end
+slice_bounds-count-end c = search rules
 
-count-requires : tie.Need-count-requires
-count-requires c κs = search rules
+count-count-requires : tie.Need-count-count-requires
+count-count-requires c κs = search rules
 
-refuse-beginning-requires : tie.Need-refuse-beginning-requires
-refuse-beginning-requires c κs = search rules
+refuse_beginning-requires : tie.Need-refuse_beginning-requires
+refuse_beginning-requires c κs = search rules
 
-same_length : tie.Need-same-length
-same_length c = search rules
+shape_of-state-then-count-lt3 : tie.Need-shape_of-state-then-count-lt3
+shape_of-state-then-count-lt3 c = search rules
+
+returns-then-count-lt3 : tie.Need-returns-then-count-lt3
+unfolding findings_of
+returns-then-count-lt3 c =
+    subst (λ (due : Handed). Opened c.refuse_beginning.new.block c.refuse_beginning.result due)
+    (sym (open_scarce _ _ _ _ (omega (arith, c.count-count.ensures, c.if-count-lt3.true))))
+    c.refuse_beginning.ensures
+
+bounds-found-2 : tie.Need-bounds-found-2
+bounds-found-2 c = search rules
+
+overflow_cast-run : tie.Need-overflow_cast-run
+overflow_cast-run c = omega (arith, c.shared_slice_known-2-1.given 2)
+
+refuse_beginning-requires-then-count-run : tie.Need-refuse_beginning-requires-then-count-run
+refuse_beginning-requires-then-count-run c κs = search rules
+
+shape_of-state-then-count-run : tie.Need-shape_of-state-then-count-run
+shape_of-state-then-count-run c = search rules
+
+returns-then-count-run : tie.Need-returns-then-count-run
+unfolding findings_of
+returns-then-count-run c =
+    subst (λ (due : Handed). Opened c.refuse_beginning-then-count-run.new.block c.refuse_beginning-then-count-run.result due)
+    (sym (open_scarce _ _ _ _ (omega (
+      arith,
+      c.count-count.ensures,
+      c.if-count-lt3.false,
+      c.if-count-run.true,
+    )))) c.refuse_beginning-then-count-run.ensures
+
+bounds-found-0 : tie.Need-bounds-found-0
+bounds-found-0 c = search rules
+
+bounds-found-1 : tie.Need-bounds-found-1
+bounds-found-1 c = search rules
+
+store_resting-requires : tie.Need-store_resting-requires
+store_resting-requires c κs = (c.requires.0, c.requires.1)
+
+shape_of-state-then-found-ne0 : tie.Need-shape_of-state-then-found-ne0
+shape_of-state-then-found-ne0 c = search rules
+
+returns-then-found-ne0 : tie.Need-returns-then-found-ne0
+unfolding findings_of
+returns-then-found-ne0 c =
+    subst (λ (due : Handed). Opened c.store_resting.new.block Started due)
+    (sym (open_repair _ _ _ (findings_of (nodes_of (part c.args.state.now free_at word_count)) c.args.found.now) (omega (
+      arith,
+      c.count-count.ensures,
+      c.if-count-lt3.false,
+      c.if-count-run.false,
+    )) (ap not (ne_eqb (get_or c.args.found.now 0 0) 0 c.if-found-ne0.true))))
+    (record { answered = refl; handed = c.store_resting.ensures.1; words = c.store_resting.ensures.0 })
+
+store_resting-requires-2 : tie.Need-store_resting-requires-2
+store_resting-requires-2 c κs = (c.requires.0, c.requires.1)
+
+shape_of-state : tie.Need-shape_of-state
+shape_of-state c = search rules
 
 returns : tie.Need-returns
 unfolding findings_of
 returns c =
-    let s = c.before.before.before.before.before.before.before.before.before.before in
-    subst (λ (due : Handed). Opened c.before.before.refuse-beginning.new.0 c.before.before.refuse-beginning.result due)
-    (sym (open_scarce _ _ _ _ (omega (arith, c.before.before.before.before.before.count.ensures, c.before.before.before.before.if1.true))))
-    c.before.before.refuse-beginning.ensures
-
-shared-slice-read-run : tie.Need-shared-slice-read-run
-shared-slice-read-run c = search rules
-
-cast-run : tie.Need-overflow-cast-run
-cast-run c = omega (arith, c.shared-slice-known2.given 2)
-
-refuse-beginning-requires-2 : tie.Need-refuse-beginning-requires-2
-refuse-beginning-requires-2 c κs = search rules
-
-same-length-2 : tie.Need-same-length-2
-same-length-2 c = search rules
-
-returns-2 : tie.Need-returns-2
-unfolding findings_of
-returns-2 c =
-    let s = c.before.before.before.before.before.before.before.before.before.before.before.before in
-    subst (λ (due : Handed). Opened c.before.before.refuse-beginning2.new.0 c.before.before.refuse-beginning2.result due)
-    (sym (open_scarce _ _ _ _ (omega (
+    subst (λ (due : Handed). Opened c.store_resting-2.new.block OpenedIdle due)
+    (sym (open_idle _ _ _ (findings_of (nodes_of (part c.args.state.now free_at word_count)) c.args.found.now) (omega (
       arith,
-      c.before.before.before.before.before.before.before.count.ensures,
-      c.before.before.before.before.before.before.if1.false,
-      c.before.before.before.before.if2.true,
-    )))) c.before.before.refuse-beginning2.ensures
-
-shared-slice-read-if3 : tie.Need-shared-slice-read-if3
-shared-slice-read-if3 c = search rules
-
-shared-slice-read-t23 : tie.Need-shared-slice-read-t23
-shared-slice-read-t23 c = search rules
-
-store-resting-requires : tie.Need-store-resting-requires
-store-resting-requires c κs = let s = c.before.before.before.before.before.before.before.before.before.before.before.before in (s.requires.0, s.requires.1)
-
-same-length-3 : tie.Need-same-length-3
-same-length-3 c = search rules
-
-returns-3 : tie.Need-returns-3
-unfolding findings_of
-returns-3 c =
-    let s = c.before.before.before.before.before.before.before.before.before.before.before.before.before.before.before in
-    subst (λ (due : Handed). Opened c.before.before.store-resting.new.0 Started due)
-    (sym (open_repair _ _ _ (findings_of (nodes_of (part s.args.state.now free_at word_count)) s.args.found.now) (omega (
-      arith,
-      c.before.before.before.before.before.before.before.before.before.before.count.ensures,
-      c.before.before.before.before.before.before.before.before.before.if1.false,
-      c.before.before.before.before.before.before.before.if2.false,
-    )) (ap not (ne_eqb (get_or s.args.found.now 0 0) 0 c.before.before.before.before.before.if3.true))))
-    (record { answered = refl; handed = c.before.before.store-resting.ensures.1; words = c.before.before.store-resting.ensures.0 })
-
-store-resting-requires-2 : tie.Need-store-resting-requires-2
-store-resting-requires-2 c κs = let s = c.before.before.before.before.before.before.before.before.before.before.before in (s.requires.0, s.requires.1)
-
-same-length-4 : tie.Need-same-length-4
-same-length-4 c = search rules
-
-returns-4 : tie.Need-returns-4
-unfolding findings_of
-returns-4 c =
-    let s = c.before.before.before.before.before.before.before.before.before.before.before.before.before.before in
-    subst (λ (due : Handed). Opened c.before.before.store-resting2.new.0 OpenedIdle due)
-    (sym (open_idle _ _ _ (findings_of (nodes_of (part s.args.state.now free_at word_count)) s.args.found.now) (omega (
-      arith,
-      c.before.before.before.before.before.before.before.before.before.count.ensures,
-      c.before.before.before.before.before.before.before.before.if1.false,
-      c.before.before.before.before.before.before.if2.false,
-    )) (ap not (eq-eqb (get_or s.args.found.now 0 0) 0 c.before.before.before.before.if3.false))))
-    (record { answered = refl; handed = c.before.before.store-resting2.ensures.1; words = c.before.before.store-resting2.ensures.0 })
+      c.count-count.ensures,
+      c.if-count-lt3.false,
+      c.if-count-run.false,
+    )) (ap not (eq-eqb (get_or c.args.found.now 0 0) 0 c.if-found-ne0.false))))
+    (record { answered = refl; handed = c.store_resting-2.ensures.1; words = c.store_resting-2.ensures.0 })
 
 pub open_sound_spec : {M : Type 1} → statement M
 open_sound_spec =
     tie.close
     (tie.spec
-    sub-count
-    part-count-start
-    part-count-end
-    count-requires
-    refuse-beginning-requires
-    same_length
-    returns
-    shared-slice-read-run
-    cast-run
-    refuse-beginning-requires-2
-    same-length-2
-    returns-2
-    shared-slice-read-if3
-    shared-slice-read-t23
-    store-resting-requires
-    same-length-3
-    returns-3
-    store-resting-requires-2
-    same-length-4
-    returns-4)
+    slice_bounds-count-count
+    slice_bounds-count-start
+    slice_bounds-count-end
+    count-count-requires
+    refuse_beginning-requires
+    shape_of-state-then-count-lt3
+    returns-then-count-lt3
+    bounds-found-2
+    overflow_cast-run
+    refuse_beginning-requires-then-count-run
+    shape_of-state-then-count-run
+    returns-then-count-run
+    bounds-found-0
+    bounds-found-1
+    store_resting-requires
+    shape_of-state-then-found-ne0
+    returns-then-found-ne0
+    store_resting-requires-2
+    shape_of-state
+    returns)

@@ -17,113 +17,111 @@ use Rattle.call_open.proofs.CardOpeningLaws.{two_held, one_held}
 use Rattle.call_open.proofs.lines.hold_both.Statement.{statement}
 use Rattle.call_open.proofs.lines.hold_both.Tie as tie
 
-shared-slice-read-doing-after : tie.Need-shared-slice-read-doing-after
-shared-slice-read-doing-after c = search rules
+bounds-next-0 : tie.Need-bounds-next-0
+bounds-next-0 c = search rules
 
-shared-slice-read-doing-after-2 : tie.Need-shared-slice-read-doing-after-2
-shared-slice-read-doing-after-2 c = search rules
+bounds-next-1 : tie.Need-bounds-next-1
+bounds-next-1 c = search rules
 
-doing-after-requires : tie.Need-doing-after-requires
-doing-after-requires c κs = search rules
+doing_after-doing-requires : tie.Need-doing_after-doing-requires
+doing_after-doing-requires c κs = search rules
 
-shared-slice-read-is-second : tie.Need-shared-slice-read-is-second
-shared-slice-read-is-second c = search rules
+bounds-found-0 : tie.Need-bounds-found-0
+bounds-found-0 c = search rules
 
-shared-slice-read-is-second-2 : tie.Need-shared-slice-read-is-second-2
-shared-slice-read-is-second-2 c = search rules
+bounds-next-0-2 : tie.Need-bounds-next-0-2
+bounds-next-0-2 c = search rules
 
-is-second-requires : tie.Need-is-second-requires
-is-second-requires c κs = search rules
+is_second-requires : tie.Need-is_second-requires
+is_second-requires c κs = search rules
 
-shared-slice-read-back-of : tie.Need-shared-slice-read-back-of
-shared-slice-read-back-of c = search rules
+bounds-card-7 : tie.Need-bounds-card-7
+bounds-card-7 c = search rules
 
 less-requires : tie.Need-less-requires
 less-requires c κs = search rules
 
-back-of-requires : tie.Need-back-of-requires
-back-of-requires c κs = search rules
+back_of-requires : tie.Need-back_of-requires
+back_of-requires c κs = search rules
 
-hold-line-requires : tie.Need-hold-line-requires
-hold-line-requires c κs = search rules
+hold_line-requires : tie.Need-hold_line-requires
+hold_line-requires c κs = search rules
 
-shared-slice-read-back-of-2 : tie.Need-shared-slice-read-back-of-2
-shared-slice-read-back-of-2 c = search rules
+bounds-card-6 : tie.Need-bounds-card-6
+bounds-card-6 c = search rules
 
-less-requires-2 : tie.Need-less-requires-2
-less-requires-2 c κs = search rules
+less-requires-else-is_second : tie.Need-less-requires-else-is_second
+less-requires-else-is_second c κs = search rules
 
-back-of-requires-2 : tie.Need-back-of-requires-2
-back-of-requires-2 c κs = search rules
+back_of-requires-else-is_second : tie.Need-back_of-requires-else-is_second
+back_of-requires-else-is_second c κs = search rules
 
-hold-line-requires-2 : tie.Need-hold-line-requires-2
-hold-line-requires-2 c κs = search rules
+hold_line-requires-else-is_second : tie.Need-hold_line-requires-else-is_second
+hold_line-requires-else-is_second c κs = search rules
 
-same_length : tie.Need-same-length
-same_length c = search rules
+shape_of-state-then-is_second : tie.Need-shape_of-state-then-is_second
+shape_of-state-then-is_second c = search rules
 
-returns : tie.Need-returns
-returns c =
-    let s = c.before.before.before.before.before.before.before.before.before.before.before.before.before.before.before.before.before.before in
-    let found = s.args.found.now in
-    let next = s.args.next.now in
-    let free = nodes_of (part s.args.state.now free_at word_count) in
-    let is : (f g : List Bool) → s.args.counts.before ≡ count_true f → s.args.counts.after ≡ count_true g → g ≡ free
-    → held_line s.args.card.now s.args.n free 2 c.before.before.before.before.back-of.result
-    c.before.before.before.before.before.before.before.before.before.before.before.doing-after.result (drop 3 next)
+returns-then-is_second : tie.Need-returns-then-is_second
+returns-then-is_second c =
+    let found = c.args.found.now in
+    let next = c.args.next.now in
+    let free = nodes_of (part c.args.state.now free_at word_count) in
+    let is : (f g : List Bool) → c.args.counts.before ≡ count_true f → c.args.counts.after ≡ count_true g → g ≡ free
+    → held_line c.args.card.now c.args.n free 2 c.back_of.result
+    c.doing_after-doing.result (drop 3 next)
     (drop 3 found)
-    ≡ opened_state s.args.card.now s.args.n (findings_of f found) (findings_of g next)
+    ≡ opened_state c.args.card.now c.args.n (findings_of f found) (findings_of g next)
     (pick (not (eqb (get_or next 0 0) 0)) (Repairing (get_or next 1 0)) Idle) =
-    λ f g p q r. two_held s.args.card.now found next s.args.n f g s.requires.5 s.requires.6 free _ _ r
-    (c.before.before.before.before.back-of.ensures ∙ ap (λ (own : ℕ). s.args.n - (get_or s.args.card.now 7 0 + own))
-    (c.before.before.before.before.before.less.ensures ∙ ap (λ (b : ℕ). s.args.n - b) p))
-    c.before.before.before.before.before.before.before.before.before.before.before.doing-after.ensures
-    (sym c.before.before.before.before.before.before.before.before.is_second.ensures
-    ∙ c.before.before.before.before.before.before.before.if1.true) in
-    (λ f g p q r. c.before.before.hold-line.ensures.0 ∙ is f g p q r, λ f g p q r. c.before.before.hold-line.ensures.1 ∙ ap resting_card (is f g p q r))
+    λ f g p q r. two_held c.args.card.now found next c.args.n f g c.requires.5 c.requires.6 free _ _ r
+    (c.back_of.ensures ∙ ap (λ (own : ℕ). c.args.n - (get_or c.args.card.now 7 0 + own))
+    (c.less.ensures ∙ ap (λ (b : ℕ). c.args.n - b) p))
+    c.doing_after-doing.ensures
+    (sym c.is_second.ensures
+    ∙ c.if-is_second.true) in
+    (λ f g p q r. c.hold_line.ensures.0 ∙ is f g p q r, λ f g p q r. c.hold_line.ensures.1 ∙ ap resting_card (is f g p q r))
 
-same-length-2 : tie.Need-same-length-2
-same-length-2 c = search rules
+shape_of-state-else-is_second : tie.Need-shape_of-state-else-is_second
+shape_of-state-else-is_second c = search rules
 
-returns-2 : tie.Need-returns-2
-returns-2 c =
-    let s = c.before.before.before.before.before.before.before.before.before.before.before.before.before.before.before.before.before.before in
-    let found = s.args.found.now in
-    let next = s.args.next.now in
-    let free = nodes_of (part s.args.state.now free_at word_count) in
-    let is : (f g : List Bool) → s.args.counts.before ≡ count_true f → s.args.counts.after ≡ count_true g → g ≡ free
-    → held_line s.args.card.now s.args.n free 1 c.before.before.before.before.back-of2.result
-    c.before.before.before.before.before.before.before.before.before.before.before.doing-after.result
+returns-else-is_second : tie.Need-returns-else-is_second
+returns-else-is_second c =
+    let found = c.args.found.now in
+    let next = c.args.next.now in
+    let free = nodes_of (part c.args.state.now free_at word_count) in
+    let is : (f g : List Bool) → c.args.counts.before ≡ count_true f → c.args.counts.after ≡ count_true g → g ≡ free
+    → held_line c.args.card.now c.args.n free 1 c.back_of-else-is_second.result
+    c.doing_after-doing.result
     (drop 3 found) (drop 3 next)
-    ≡ opened_state s.args.card.now s.args.n (findings_of f found) (findings_of g next)
+    ≡ opened_state c.args.card.now c.args.n (findings_of f found) (findings_of g next)
     (pick (not (eqb (get_or next 0 0) 0)) (Repairing (get_or next 1 0)) Idle) =
-    λ f g p q r. one_held s.args.card.now found next s.args.n f g s.requires.5 s.requires.6 free _ _ r
-    (c.before.before.before.before.back-of2.ensures ∙ ap (λ (own : ℕ). s.args.n - (get_or s.args.card.now 6 0 + own))
-    (c.before.before.before.before.before.less2.ensures ∙ ap₂ (λ (a b : ℕ). a - b) p q))
-    c.before.before.before.before.before.before.before.before.before.before.before.doing-after.ensures
-    (sym c.before.before.before.before.before.before.before.before.is_second.ensures
-    ∙ c.before.before.before.before.before.before.before.if1.false) in
-    (λ f g p q r. c.before.before.hold-line2.ensures.0 ∙ is f g p q r, λ f g p q r. c.before.before.hold-line2.ensures.1 ∙ ap resting_card (is f g p q r))
+    λ f g p q r. one_held c.args.card.now found next c.args.n f g c.requires.5 c.requires.6 free _ _ r
+    (c.back_of-else-is_second.ensures ∙ ap (λ (own : ℕ). c.args.n - (get_or c.args.card.now 6 0 + own))
+    (c.less-else-is_second.ensures ∙ ap₂ (λ (a b : ℕ). a - b) p q))
+    c.doing_after-doing.ensures
+    (sym c.is_second.ensures
+    ∙ c.if-is_second.false) in
+    (λ f g p q r. c.hold_line-else-is_second.ensures.0 ∙ is f g p q r, λ f g p q r. c.hold_line-else-is_second.ensures.1 ∙ ap resting_card (is f g p q r))
 
 pub hold_both_spec : {M : Type 1} → statement M
 hold_both_spec =
     tie.close
     (tie.spec
-    shared-slice-read-doing-after
-    shared-slice-read-doing-after-2
-    doing-after-requires
-    shared-slice-read-is-second
-    shared-slice-read-is-second-2
-    is-second-requires
-    shared-slice-read-back-of
+    bounds-next-0
+    bounds-next-1
+    doing_after-doing-requires
+    bounds-found-0
+    bounds-next-0-2
+    is_second-requires
+    bounds-card-7
     less-requires
-    back-of-requires
-    hold-line-requires
-    shared-slice-read-back-of-2
-    less-requires-2
-    back-of-requires-2
-    hold-line-requires-2
-    same_length
-    returns
-    same-length-2
-    returns-2)
+    back_of-requires
+    hold_line-requires
+    bounds-card-6
+    less-requires-else-is_second
+    back_of-requires-else-is_second
+    hold_line-requires-else-is_second
+    shape_of-state-then-is_second
+    returns-then-is_second
+    shape_of-state-else-is_second
+    returns-else-is_second)

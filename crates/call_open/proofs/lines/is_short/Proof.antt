@@ -10,23 +10,21 @@ use Rattle.call_open.proofs.CardOpeningLaws.{less_short}
 use Rattle.call_open.proofs.lines.is_short.Statement.{statement}
 use Rattle.call_open.proofs.lines.is_short.Tie as tie
 
-less-requires : tie.Need-less-requires
-less-requires c κs = search rules
+less-room-requires : tie.Need-less-room-requires
+less-room-requires c κs = search rules
 
-add-result : tie.Need-overflow-add-result
-add-result c = search rules
+overflow_add-result : tie.Need-overflow_add-result
+overflow_add-result c = search rules
+
+returns-then-fault : tie.Need-returns-then-fault
+returns-then-fault c =
+    ap (λ (x : ℕ). ltb x (3 + c.args.run)) c.less-room.ensures ∙ less_short c.args.limit c.args.own (3 + c.args.run) (omega arith)
+    ∙ ap (λ (b : Bool). ltb c.args.limit (c.args.own + (3 + pick b c.args.run 0))) (sym c.if-fault.true)
 
 returns : tie.Need-returns
 returns c =
-    let s = c.before.before in
-    ap (λ (x : ℕ). ltb x (3 + s.args.run)) c.before.less.ensures ∙ less_short s.args.limit s.args.own (3 + s.args.run) (omega arith)
-    ∙ ap (λ (b : Bool). ltb s.args.limit (s.args.own + (3 + pick b s.args.run 0))) (sym c.if1.true)
-
-returns-2 : tie.Need-returns-2
-returns-2 c =
-    let s = c.before.before in
-    ap (λ (x : ℕ). ltb x 3) c.before.less.ensures ∙ less_short s.args.limit s.args.own 3 (omega arith)
-    ∙ ap (λ (b : Bool). ltb s.args.limit (s.args.own + (3 + pick b s.args.run 0))) (sym c.if1.false)
+    ap (λ (x : ℕ). ltb x 3) c.less-room.ensures ∙ less_short c.args.limit c.args.own 3 (omega arith)
+    ∙ ap (λ (b : Bool). ltb c.args.limit (c.args.own + (3 + pick b c.args.run 0))) (sym c.if-fault.false)
 
 pub is_short_spec : {M : Type 1} → statement M
-is_short_spec = tie.close (tie.spec less-requires add-result returns returns-2)
+is_short_spec = tie.close (tie.spec less-room-requires overflow_add-result returns-then-fault returns)

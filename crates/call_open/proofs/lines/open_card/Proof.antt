@@ -19,92 +19,89 @@ use Rattle.call_open.proofs.OneLine.{one_line, checked_back, card_refused, card_
 use Rattle.call_open.proofs.lines.open_card.Statement.{statement}
 use Rattle.call_open.proofs.lines.open_card.Tie as tie
 
-accepted : (c : tie.After-nodes-of) → any_refusal c.before.before.before.before.before.before.args.greatest c.before.before.before.before.before.before.args.card.now ≡ 0
-accepted c = sym c.before.before.any-refusal.ensures ∙ c.before.if2.false
+accepted : (c : tie.After-nodes_of-n) → any_refusal c.args.greatest c.args.card.now ≡ 0
+accepted c = sym c.any_refusal-refusal.ensures ∙ c.if-refusal-ne0.false
 
-whole : (c : tie.After-nodes-of) → Sized c.before.before.before.before.before.before.args.greatest
-    (length c.before.before.before.before.before.before.args.card.now) c.nodes-of.result
+whole : (c : tie.After-nodes_of-n) → Sized c.args.greatest
+    (length c.args.card.now) c.nodes_of-n.result
 whole c =
-    subst (λ (n : ℕ). Sized c.before.before.before.before.before.before.args.greatest
-    (length c.before.before.before.before.before.before.args.card.now) n) (sym c.nodes-of.ensures)
-    (any_accepted c.before.before.before.before.before.before.args.greatest c.before.before.before.before.before.before.args.card.now (accepted c)).0
+    subst (λ (n : ℕ). Sized c.args.greatest
+    (length c.args.card.now) n) (sym c.nodes_of-n.ensures)
+    (any_accepted c.args.greatest c.args.card.now (accepted c)).0
 
-returns : tie.Need-returns
-returns c = let s = c.before.before.before in card_no_state s.args.state.now c.if1.true (open_card s.args.greatest s.args.card.now)
+returns-then-state-ne-STATE_WORDS : tie.Need-returns-then-state-ne-STATE_WORDS
+returns-then-state-ne-STATE_WORDS c = card_no_state c.args.state.now c.if-state-ne-STATE_WORDS.true (open_card c.args.greatest c.args.card.now)
 
-any-refusal-requires : tie.Need-any-refusal-requires
-any-refusal-requires c κs = search rules
+any_refusal-refusal-requires : tie.Need-any_refusal-refusal-requires
+any_refusal-refusal-requires c κs = search rules
 
-refuse-beginning-requires : tie.Need-refuse-beginning-requires
-refuse-beginning-requires c κs = search rules
+refuse_beginning-requires : tie.Need-refuse_beginning-requires
+refuse_beginning-requires c κs = search rules
 
-same_length : tie.Need-same-length
-same_length c = search rules
+shape_of-state-then-refusal-ne0 : tie.Need-shape_of-state-then-refusal-ne0
+shape_of-state-then-refusal-ne0 c = search rules
 
-returns-2 : tie.Need-returns-2
-returns-2 c =
-    let s = c.before.before.before.before.before.before.before.before.before in
-    let refused = c.before.before.refuse-beginning in
-    let due = c.before.before.before.before.before.any-refusal.ensures in
-    opened_card_lem s.args.state.now refused.new.0 _ _ c.before.before.before.before.before.before.if1.false
-    (subst (λ (d : HandedCard). OpenedCard refused.new.0 refused.result d)
-    (ap no_card due ∙ card_refused s.args.greatest s.args.card.now (λ z. c.before.before.before.before.if2.true (due ∙ z)))
-    (refused_card refused.new.0 refused.result _ refused.ensures))
+returns-then-refusal-ne0 : tie.Need-returns-then-refusal-ne0
+returns-then-refusal-ne0 c =
+    let refused = c.refuse_beginning in
+    let due = c.any_refusal-refusal.ensures in
+    opened_card_lem c.args.state.now refused.new.block _ _ c.if-state-ne-STATE_WORDS.false
+    (subst (λ (d : HandedCard). OpenedCard refused.new.block refused.result d)
+    (ap no_card due ∙ card_refused c.args.greatest c.args.card.now (λ z. c.if-refusal-ne0.true (due ∙ z)))
+    (refused_card refused.new.block refused.result _ refused.ensures))
 
-nodes-of-requires : tie.Need-nodes-of-requires
-nodes-of-requires c κs = search rules
+nodes_of-n-requires : tie.Need-nodes_of-n-requires
+nodes_of-n-requires c κs = search rules
 
-shared-slice-read-if3 : tie.Need-shared-slice-read-if3
-shared-slice-read-if3 c = omega (arith, (whole c.before).words)
+bounds-card-0 : tie.Need-bounds-card-0
+bounds-card-0 c = omega (arith, (whole c.before).words)
 
-open-lines-requires : tie.Need-open-lines-requires
-open-lines-requires c κs = let k = whole c.before.before.before in (k.words, k.most, c.before.before.before.before.before.before.if1.false)
+open_lines-requires : tie.Need-open_lines-requires
+open_lines-requires c κs = let k = whole c.before.before.before in (k.words, k.most, c.if-state-ne-STATE_WORDS.false)
 
-same-length-2 : tie.Need-same-length-2
-same-length-2 c = search rules
+shape_of-state-then-card-eq-SECOND_MARK : tie.Need-shape_of-state-then-card-eq-SECOND_MARK
+shape_of-state-then-card-eq-SECOND_MARK c = search rules
 
-returns-3 : tie.Need-returns-3
-returns-3 c =
-    let s = c.before.before.before.before.before.before.before.before.before.before.before.before in
-    let opened = c.before.before.open-lines in
-    opened_card_lem s.args.state.now opened.new.1.1.0 _ _ c.before.before.before.before.before.before.before.before.before.if1.false
-    (subst (λ (d : HandedCard). OpenedCard opened.new.1.1.0 opened.result d)
-    (ap (λ (n : ℕ). open_first s.args.card.now n (line_check 1 s.args.card.now n (start n))) c.before.before.before.before.before.before.nodes-of.ensures
-    ∙ card_two s.args.greatest s.args.card.now (accepted c.before.before.before.before.before.before) c.before.before.before.before.if3.true)
+returns-then-card-eq-SECOND_MARK : tie.Need-returns-then-card-eq-SECOND_MARK
+returns-then-card-eq-SECOND_MARK c =
+    let opened = c.open_lines in
+    opened_card_lem c.args.state.now opened.new.state _ _ c.if-state-ne-STATE_WORDS.false
+    (subst (λ (d : HandedCard). OpenedCard opened.new.state opened.result d)
+    (ap (λ (n : ℕ). open_first c.args.card.now n (line_check 1 c.args.card.now n (start n))) c.nodes_of-n.ensures
+    ∙ card_two c.args.greatest c.args.card.now (accepted c.before.before.before.before.before.before) c.if-card-eq-SECOND_MARK.true)
     opened.ensures)
 
-open-checked-requires : tie.Need-open-checked-requires
-open-checked-requires c κs = let k = whole c.before.before.before in (k.words, k.most, c.before.before.before.before.before.before.if1.false)
+open_checked-requires : tie.Need-open_checked-requires
+open_checked-requires c κs = let k = whole c.before.before.before in (k.words, k.most, c.if-state-ne-STATE_WORDS.false)
 
-same-length-3 : tie.Need-same-length-3
-same-length-3 c = search rules
+shape_of-state : tie.Need-shape_of-state
+shape_of-state c = search rules
 
-returns-4 : tie.Need-returns-4
-returns-4 c =
-    let s = c.before.before.before.before.before.before.before.before.before.before.before.before in
-    let opened = c.before.before.open-checked in
-    opened_card_lem s.args.state.now opened.new.1.1.0 _ _ c.before.before.before.before.before.before.before.before.before.if1.false
-    (subst (λ (d : HandedCard). OpenedCard opened.new.1.1.0 opened.result d)
-    (ap (λ (n : ℕ). handed_one (open_checked n (search_start s.args.card.now) (table_counted s.args.card.now) (table_check s.args.card.now n)))
-    c.before.before.before.before.before.before.nodes-of.ensures
-    ∙ card_one s.args.greatest s.args.card.now (accepted c.before.before.before.before.before.before) c.before.before.before.before.if3.false)
-    (one_line opened.new.1.1.0 opened.result _ opened.ensures
-    (opened.auto.1.1.0 ∙ c.before.before.before.before.before.before.before.before.before.if1.false) (checked_back _ _ _ _)))
+returns : tie.Need-returns
+returns c =
+    let opened = c.open_checked in
+    opened_card_lem c.args.state.now opened.new.state _ _ c.if-state-ne-STATE_WORDS.false
+    (subst (λ (d : HandedCard). OpenedCard opened.new.state opened.result d)
+    (ap (λ (n : ℕ). handed_one (open_checked n (search_start c.args.card.now) (table_counted c.args.card.now) (table_check c.args.card.now n)))
+    c.nodes_of-n.ensures
+    ∙ card_one c.args.greatest c.args.card.now (accepted c.before.before.before.before.before.before) c.if-card-eq-SECOND_MARK.false)
+    (one_line opened.new.state opened.result _ opened.ensures
+    (opened.auto.state ∙ c.if-state-ne-STATE_WORDS.false) (checked_back _ _ _ _)))
 
 pub open_card_spec : {M : Type 1} → statement M
 open_card_spec =
     tie.close
     (tie.spec
-    returns
-    any-refusal-requires
-    refuse-beginning-requires
-    same_length
-    returns-2
-    nodes-of-requires
-    shared-slice-read-if3
-    open-lines-requires
-    same-length-2
-    returns-3
-    open-checked-requires
-    same-length-3
-    returns-4)
+    returns-then-state-ne-STATE_WORDS
+    any_refusal-refusal-requires
+    refuse_beginning-requires
+    shape_of-state-then-refusal-ne0
+    returns-then-refusal-ne0
+    nodes_of-n-requires
+    bounds-card-0
+    open_lines-requires
+    shape_of-state-then-card-eq-SECOND_MARK
+    returns-then-card-eq-SECOND_MARK
+    open_checked-requires
+    shape_of-state
+    returns)

@@ -15,98 +15,94 @@ use Rattle.call_open.proofs.CardOpeningLaws.{first_check, first_counted}
 use Rattle.call_open.proofs.lines.open_lines.Statement.{statement}
 use Rattle.call_open.proofs.lines.open_lines.Tie as tie
 
-sub-check-table : tie.Need-overflow-sub-check-table
-sub-check-table c = search rules
+slice_bounds-check_table-count : tie.Need-slice_bounds-check_table-count
+slice_bounds-check_table-count c = search rules
 
-part-check-table-start : tie.Need-slice-bounds-check-table-start
-part-check-table-start c = search rules
+slice_bounds-check_table-start : tie.Need-slice_bounds-check_table-start
+slice_bounds-check_table-start c = search rules
 
-part-check-table-end : tie.Need-slice-bounds-check-table-end
-part-check-table-end c = search rules
+slice_bounds-check_table-end : tie.Need-slice_bounds-check_table-end
+slice_bounds-check_table-end c = search rules
 
-slice-aggregate-check-table : tie.Need-slice-aggregate-check-table
-slice-aggregate-check-table c = search rules
+slice_bounds-check_table-end-2 : tie.Need-slice_bounds-check_table-end-2
+slice_bounds-check_table-end-2 c = search rules
 
-check-table-requires : tie.Need-check-table-requires
-check-table-requires c κs = search rules
+check_table-requires : tie.Need-check_table-requires
+check_table-requires c κs = search rules
 
-enum_told : tie.Need-enum-told
-enum_told c = search rules
+enum_told-1 : tie.Need-enum_told-1
+enum_told-1 c = search rules
 
-refuse-beginning-requires : tie.Need-refuse-beginning-requires
-refuse-beginning-requires c κs = search rules
+refuse_beginning-requires : tie.Need-refuse_beginning-requires
+refuse_beginning-requires c κs = search rules
 
-enum-told-2 : tie.Need-enum-told-2
-enum-told-2 c = search rules
+enum_told-in-Sound : tie.Need-enum_told-in-Sound
+enum_told-in-Sound c = search rules
 
-slice-aggregate-open-second : tie.Need-slice-aggregate-open-second
-slice-aggregate-open-second c = search rules
+slice_bounds-open_second-end : tie.Need-slice_bounds-open_second-end
+slice_bounds-open_second-end c = search rules
 
-open-second-requires : tie.Need-open-second-requires
-open-second-requires c κs =
-    let s = c.before.before.before.before.before.before.before.before.before.before.before.before in
-    let b = s.args.state.now in
-    let k = c.before.before.before.before.before.before.before.check-table in
-    let told = c.before.before.enum-told2.given in (
-      s.requires.0,
-      s.requires.1,
-      freed_length b k.new.1.1.0 s.requires.2 k.auto.1.1.0,
-      k.auto.1.1.1.0,
-      k.ensures.1 told.0.0 told.1 ∙ sym (first_counted s.args.card.now),
+open_second-requires : tie.Need-open_second-requires
+open_second-requires c κs =
+    let b = c.args.state.now in
+    let k = c.check_table in (
+      c.requires.0,
+      c.requires.1,
+      freed_length b k.new.free c.requires.2 k.auto.free,
+      k.auto.found,
+      k.ensures.1 c.in-Sound.field-0 c.in-Sound.is ∙ sym (first_counted c.args.card.now),
     )
 
-same_length : tie.Need-same-length
-same_length c = search rules
+shape_of-state-in-Unsound : tie.Need-shape_of-state-in-Unsound
+shape_of-state-in-Unsound c = search rules
 
-returns : tie.Need-returns
+returns-in-Unsound : tie.Need-returns-in-Unsound
 unfolding open_first checked_of
-returns c =
-    let s = c.before.before.before.before.before.before.before.before.before.before.before.before.before.before in
-    let card = s.args.card.now in
-    let b = s.args.state.now in
-    let k = c.before.before.before.before.before.before.before.before.before.check-table in
-    let checked = first_check card s.args.n ∙ sym k.ensures.0 in
-    let refused = c.before.before.refuse-beginning in
-    subst (λ (due : HandedCard). OpenedCard refused.new.0 refused.result due)
-    (ap (open_first card s.args.n) (sym (checked
-    ∙ ap (λ (r : Checked). checked_of r (findings_of (nodes_of k.new.1.1.0) k.new.1.1.1.0)) c.before.before.before.before.enum_told.given.1)))
-    (refused_card refused.new.0 refused.result 4 refused.ensures)
+returns-in-Unsound c =
+    let card = c.args.card.now in
+    let b = c.args.state.now in
+    let k = c.check_table in
+    let checked = first_check card c.args.n ∙ sym k.ensures.0 in
+    let refused = c.refuse_beginning in
+    subst (λ (due : HandedCard). OpenedCard refused.new.block refused.result due)
+    (ap (open_first card c.args.n) (sym (checked
+    ∙ ap (λ (r : Checked). checked_of r (findings_of (nodes_of k.new.free) k.new.found)) c.in-Unsound.is)))
+    (refused_card refused.new.block refused.result 4 refused.ensures)
 
-same-length-2 : tie.Need-same-length-2
-same-length-2 c = search rules
+shape_of-state-in-Sound : tie.Need-shape_of-state-in-Sound
+shape_of-state-in-Sound c = search rules
 
-returns-2 : tie.Need-returns-2
+returns-in-Sound : tie.Need-returns-in-Sound
 unfolding open_first checked_of
-returns-2 c =
-    let s = c.before.before.before.before.before.before.before.before.before.before.before.before.before.before.before in
-    let card = s.args.card.now in
-    let b = s.args.state.now in
-    let k = c.before.before.before.before.before.before.before.before.before.before.check-table in
-    let checked = first_check card s.args.n ∙ sym k.ensures.0 in
-    let found = k.new.1.1.1.0 in
-    let opened = c.before.before.open-second in
-    subst (λ (due : HandedCard). OpenedCard opened.new.1.1.0 opened.result due)
-    (ap (λ (row : List ℕ). open_second card s.args.n (findings_of (nodes_of row) found) (line_check 2 card s.args.n (findings_of (nodes_of row) found)))
-    (freed_part b k.new.1.1.0 s.requires.2 k.auto.1.1.0)
-    ∙ ap (open_first card s.args.n) (sym (checked
-    ∙ ap (λ (r : Checked). checked_of r (findings_of (nodes_of k.new.1.1.0) found)) c.before.before.before.before.before.enum-told2.given.1)))
+returns-in-Sound c =
+    let card = c.args.card.now in
+    let b = c.args.state.now in
+    let k = c.check_table in
+    let checked = first_check card c.args.n ∙ sym k.ensures.0 in
+    let found = k.new.found in
+    let opened = c.open_second in
+    subst (λ (due : HandedCard). OpenedCard opened.new.state opened.result due)
+    (ap (λ (row : List ℕ). open_second card c.args.n (findings_of (nodes_of row) found) (line_check 2 card c.args.n (findings_of (nodes_of row) found)))
+    (freed_part b k.new.free c.requires.2 k.auto.free)
+    ∙ ap (open_first card c.args.n) (sym (checked
+    ∙ ap (λ (r : Checked). checked_of r (findings_of (nodes_of k.new.free) found)) c.in-Sound.is)))
     opened.ensures
 
 pub open_lines_spec : {M : Type 1} → statement M
 open_lines_spec =
     tie.close
     (tie.spec
-    sub-check-table
-    part-check-table-start
-    part-check-table-end
-    slice-aggregate-check-table
-    check-table-requires
-    enum_told
-    refuse-beginning-requires
-    enum-told-2
-    slice-aggregate-open-second
-    open-second-requires
-    same_length
-    returns
-    same-length-2
-    returns-2)
+    slice_bounds-check_table-count
+    slice_bounds-check_table-start
+    slice_bounds-check_table-end
+    slice_bounds-check_table-end-2
+    check_table-requires
+    enum_told-1
+    refuse_beginning-requires
+    enum_told-in-Sound
+    slice_bounds-open_second-end
+    open_second-requires
+    shape_of-state-in-Unsound
+    returns-in-Unsound
+    shape_of-state-in-Sound
+    returns-in-Sound)
