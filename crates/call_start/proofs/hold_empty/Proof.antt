@@ -13,38 +13,34 @@ use borrow.Author.Rules.{rules}
 use Rattle.call_start.proofs.hold_empty.Statement.{statement}
 use Rattle.call_start.proofs.hold_empty.Tie as tie
 
-sub-free-but-root : tie.Need-overflow-sub-free-but-root
-sub-free-but-root c = search rules
+slice_bounds-free_but_root-count : tie.Need-slice_bounds-free_but_root-count
+slice_bounds-free_but_root-count c = search rules
 
-part-free-but-root-start : tie.Need-slice-bounds-free-but-root-start
-part-free-but-root-start c = search rules
+slice_bounds-free_but_root-start : tie.Need-slice_bounds-free_but_root-start
+slice_bounds-free_but_root-start c = search rules
 
-part-free-but-root-end : tie.Need-slice-bounds-free-but-root-end
-part-free-but-root-end c = search rules
+slice_bounds-free_but_root-end : tie.Need-slice_bounds-free_but_root-end
+slice_bounds-free_but_root-end c = search rules
 
-free-but-root-requires : tie.Need-free-but-root-requires
-free-but-root-requires c κs = search rules
+free_but_root-requires : tie.Need-free_but_root-requires
+free_but_root-requires c κs = search rules
 
-slice-aggregate-store-totals : tie.Need-slice-aggregate-store-totals
-slice-aggregate-store-totals c = search rules
+store_totals-requires : tie.Need-store_totals-requires
+store_totals-requires c κs = search rules
 
-store-totals-requires : tie.Need-store-totals-requires
-store-totals-requires c κs = search rules
-
-same_length : tie.Need-same-length
-same_length c = search rules
+shape_of-state : tie.Need-shape_of-state
+shape_of-state c = search rules
 
 returns : tie.Need-returns
 returns c =
-    let s = c.before.before.before.before.before.before.before.before.before.before in
-    let b = s.args.state.now in
-    let root = c.before.before.before.before.before.before.before.free-but-root in
-    let put = c.before.before.store-totals.ensures in
-    let block = placed free_at word_count b root.new.0 in
-    let long : length block ≡ state_words = freed_length b root.new.0 s.requires.0 root.auto.0 in
+    let b = c.args.state.now in
+    let root = c.free_but_root in
+    let put = c.store_totals.ensures in
+    let block = placed free_at word_count b root.new.free in
+    let long : length block ≡ state_words = freed_length b root.new.free c.requires.0 root.auto.free in
     let sixteen = length-replicate {A = ℕ} family_count 0 in (
       ap (λ (x : List ℕ). nodes_of (part x free_at word_count)) put
-          ∙ ap nodes_of (stored_part block no_totals long sixteen free_at word_count (omega arith) ∙ freed_part b root.new.0 s.requires.0 root.auto.0)
+          ∙ ap nodes_of (stored_part block no_totals long sixteen free_at word_count (omega arith) ∙ freed_part b root.new.free c.requires.0 root.auto.free)
           ∙ root.ensures,
       ap (λ (x : List ℕ). part x totals_at family_count) put ∙ stored_totals block no_totals long sixteen,
     )
@@ -53,11 +49,10 @@ pub hold_empty_spec : {M : Type 1} → statement M
 hold_empty_spec =
     tie.close
     (tie.spec
-    sub-free-but-root
-    part-free-but-root-start
-    part-free-but-root-end
-    free-but-root-requires
-    slice-aggregate-store-totals
-    store-totals-requires
-    same_length
+    slice_bounds-free_but_root-count
+    slice_bounds-free_but_root-start
+    slice_bounds-free_but_root-end
+    free_but_root-requires
+    store_totals-requires
+    shape_of-state
     returns)

@@ -9,47 +9,47 @@ use Rattle.call_start.proofs.room_left.Statement.{statement}
 use Rattle.call_start.proofs.room_left.Tie as tie
 
 -- what was counted and read
-bits : (c : tie.After-count) → let s = c.before.before.before in c.count.result ≡ count_true (memory_in s.args.state.now).free
+bits : (c : tie.After-count-count) → c.count-count.result ≡ count_true (memory_in c.args.state.now).free
 unfolding memory_in
-bits c = c.count.ensures
+bits c = c.count-count.ensures
 
-kept : (c : tie.After-wide) → let s = c.before.before.before.before.before in c.wide.result ≡ (memory_in s.args.state.now).back
+kept : (c : tie.After-wide-back) → c.wide-back.result ≡ (memory_in c.args.state.now).back
 unfolding memory_in
-kept c = c.wide.ensures
+kept c = c.wide-back.ensures
 
-sub-count : tie.Need-overflow-sub-count
-sub-count c = search rules
+slice_bounds-count-count : tie.Need-slice_bounds-count-count
+slice_bounds-count-count c = search rules
 
-part-count-start : tie.Need-slice-bounds-count-start
-part-count-start c = search rules
+slice_bounds-count-start : tie.Need-slice_bounds-count-start
+slice_bounds-count-start c = search rules
 
-part-count-end : tie.Need-slice-bounds-count-end
-part-count-end c = search rules
+slice_bounds-count-end : tie.Need-slice_bounds-count-end
+slice_bounds-count-end c = search rules
 
-count-requires : tie.Need-count-requires
-count-requires c κs = search rules
+count-count-requires : tie.Need-count-count-requires
+count-count-requires c κs = search rules
 
-shared-slice-read-wide : tie.Need-shared-slice-read-wide
-shared-slice-read-wide c = search rules
+bounds-state-257 : tie.Need-bounds-state-257
+bounds-state-257 c = search rules
 
-wide-requires : tie.Need-wide-requires
-wide-requires c κs = search rules
+wide-back-requires : tie.Need-wide-back-requires
+wide-back-requires c κs = search rules
+
+returns-then-count-back : tie.Need-returns-then-count-back
+returns-then-count-back c = omega (arith, bits c.before.before.before, kept c.before, c.if-count-back.true)
 
 returns : tie.Need-returns
-returns c = omega (arith, bits c.before.before.before, kept c.before, c.if1.true)
-
-returns-2 : tie.Need-returns-2
-returns-2 c = ap₂ (λ (x y : ℕ). x - y) (bits c.before.before.before) (kept c.before)
+returns c = ap₂ (λ (x y : ℕ). x - y) (bits c.before.before.before) (kept c.before)
 
 pub room_left_spec : {M : Type 1} → statement M
 room_left_spec =
     tie.close
     (tie.spec
-    sub-count
-    part-count-start
-    part-count-end
-    count-requires
-    shared-slice-read-wide
-    wide-requires
-    returns
-    returns-2)
+    slice_bounds-count-count
+    slice_bounds-count-start
+    slice_bounds-count-end
+    count-count-requires
+    bounds-state-257
+    wide-back-requires
+    returns-then-count-back
+    returns)

@@ -18,63 +18,59 @@ use borrow.Author.Rules.{rules}
 use Rattle.call_start.proofs.start_format.Statement.{statement}
 use Rattle.call_start.proofs.start_format.Tie as tie
 
+returns-then-state-ne-STATE_WORDS : tie.Need-returns-then-state-ne-STATE_WORDS
+returns-then-state-ne-STATE_WORDS c = open_no_state c.args.state.now c.if-state-ne-STATE_WORDS.true (format_of c.args.greatest c.args.card.now)
+
+nodes_of-n-requires : tie.Need-nodes_of-n-requires
+nodes_of-n-requires c κs = search rules
+
+refuse_beginning-requires : tie.Need-refuse_beginning-requires
+refuse_beginning-requires c κs = search rules
+
+shape_of-state-then-n-eq0 : tie.Need-shape_of-state-then-n-eq0
+shape_of-state-then-n-eq0 c = search rules
+
+returns-then-n-eq0 : tie.Need-returns-then-n-eq0
+returns-then-n-eq0 c =
+    opened_call c.args.state.now c.refuse_beginning.new.block _ _ c.if-state-ne-STATE_WORDS.false
+    (subst (λ (due : Handed). Opened c.refuse_beginning.new.block c.refuse_beginning.result due)
+    (sym (format_no_length _ _ _ c.nodes_of-n.ensures c.if-n-eq0.true))
+    c.refuse_beginning.ensures)
+
+hold_empty-requires : tie.Need-hold_empty-requires
+hold_empty-requires c κs =
+    let k = sized c.args.greatest c.args.card.now _ c.nodes_of-n.ensures c.if-n-eq0.false in
+    (c.if-state-ne-STATE_WORDS.false, omega (arith, k.most))
+
+store_resting-requires : tie.Need-store_resting-requires
+store_resting-requires c κs =
+    let k = sized c.args.greatest c.args.card.now _
+    c.nodes_of-n.ensures c.if-n-eq0.false in
+    (c.hold_empty.auto.state ∙ c.if-state-ne-STATE_WORDS.false, k.most)
+
+shape_of-state : tie.Need-shape_of-state
+shape_of-state c = search rules
+
 returns : tie.Need-returns
-returns c = let s = c.before.before.before in open_no_state s.args.state.now c.if1.true (format_of s.args.greatest s.args.card.now)
-
-nodes-of-requires : tie.Need-nodes-of-requires
-nodes-of-requires c κs = search rules
-
-refuse-beginning-requires : tie.Need-refuse-beginning-requires
-refuse-beginning-requires c κs = search rules
-
-same_length : tie.Need-same-length
-same_length c = search rules
-
-returns-2 : tie.Need-returns-2
-returns-2 c =
-    let s = c.before.before.before.before.before.before.before.before.before in
-    opened_call s.args.state.now c.before.before.refuse-beginning.new.0 _ _ c.before.before.before.before.before.before.if1.false
-    (subst (λ (due : Handed). Opened c.before.before.refuse-beginning.new.0 c.before.before.refuse-beginning.result due)
-    (sym (format_no_length _ _ _ c.before.before.before.before.before.nodes-of.ensures c.before.before.before.before.if2.true))
-    c.before.before.refuse-beginning.ensures)
-
-hold-empty-requires : tie.Need-hold-empty-requires
-hold-empty-requires c κs =
-    let s = c.before.before.before.before.before.before in
-    let k = sized s.args.greatest s.args.card.now _ c.before.before.nodes-of.ensures c.before.if2.false in
-    (c.before.before.before.if1.false, omega (arith, k.most))
-
-store-resting-requires : tie.Need-store-resting-requires
-store-resting-requires c κs =
-    let s = c.before.before.before.before.before.before.before.before.before.before in
-    let k = sized s.args.greatest s.args.card.now _
-    c.before.before.before.before.before.before.nodes-of.ensures c.before.before.before.before.before.if2.false in
-    (c.before.before.before.hold-empty.auto.0 ∙ c.before.before.before.before.before.before.before.if1.false, k.most)
-
-same-length-2 : tie.Need-same-length-2
-same-length-2 c = search rules
-
-returns-3 : tie.Need-returns-3
-returns-3 c =
-    let s = c.before.before.before.before.before.before.before.before.before.before.before.before.before in
-    let n = c.before.before.before.before.before.before.before.before.before.nodes-of in
-    let held = c.before.before.before.before.before.before.hold-empty.ensures in
-    opened_call s.args.state.now c.before.before.store-resting.new.0 _ _ c.before.before.before.before.before.before.before.before.before.before.if1.false
-    (subst (λ (due : Handed). Opened c.before.before.store-resting.new.0 Started due)
+returns c =
+    let n = c.nodes_of-n in
+    let held = c.hold_empty.ensures in
+    opened_call c.args.state.now c.store_resting.new.block _ _ c.if-state-ne-STATE_WORDS.false
+    (subst (λ (due : Handed). Opened c.store_resting.new.block Started due)
     (ap₂ (λ (x : List Bool) (t : List ℕ). record { begun = Started; memory = resting n.result x formatted_root t (Formatting 0) }) held.0 held.1
-    ∙ sym (format_length _ _ _ n.ensures c.before.before.before.before.before.before.before.before.if2.false))
-    (record { answered = refl; handed = c.before.before.store-resting.ensures.1; words = c.before.before.store-resting.ensures.0 }))
+    ∙ sym (format_length _ _ _ n.ensures c.if-n-eq0.false))
+    (record { answered = refl; handed = c.store_resting.ensures.1; words = c.store_resting.ensures.0 }))
 
 pub start_format_spec : {M : Type 1} → statement M
 start_format_spec =
     tie.close
     (tie.spec
-    returns
-    nodes-of-requires
-    refuse-beginning-requires
-    same_length
-    returns-2
-    hold-empty-requires
-    store-resting-requires
-    same-length-2
-    returns-3)
+    returns-then-state-ne-STATE_WORDS
+    nodes_of-n-requires
+    refuse_beginning-requires
+    shape_of-state-then-n-eq0
+    returns-then-n-eq0
+    hold_empty-requires
+    store_resting-requires
+    shape_of-state
+    returns)

@@ -17,57 +17,52 @@ use Rattle.call_start.specs.CardStarts.{free_beside}
 use Rattle.call_start.proofs.lines.hold_format.Statement.{statement}
 use Rattle.call_start.proofs.lines.hold_format.Tie as tie
 
-hold-roots-requires : tie.Need-hold-roots-requires
-hold-roots-requires c κs = search rules
+hold_roots-requires : tie.Need-hold_roots-requires
+hold_roots-requires c κs = search rules
 
-store-resting-requires : tie.Need-store-resting-requires
-store-resting-requires c κs = search rules
+store_resting-requires : tie.Need-store_resting-requires
+store_resting-requires c κs = search rules
 
-add_back : tie.Need-overflow-add-back
-add_back c = search rules
+overflow_add-back : tie.Need-overflow_add-back
+overflow_add-back c = search rules
 
-sub_back : tie.Need-overflow-sub-back
-sub_back c = search rules
+overflow_sub-back : tie.Need-overflow_sub-back
+overflow_sub-back c = search rules
 
-cast-store-lines : tie.Need-overflow-cast-store-lines
-cast-store-lines c = search rules
+overflow_cast-back-2 : tie.Need-overflow_cast-back-2
+overflow_cast-back-2 c = search rules
 
-slice-aggregate-store-lines : tie.Need-slice-aggregate-store-lines
-slice-aggregate-store-lines c = search rules
+store_lines-requires : tie.Need-store_lines-requires
+store_lines-requires c κs = search rules
 
-store-lines-requires : tie.Need-store-lines-requires
-store-lines-requires c κs = search rules
-
-same_length : tie.Need-same-length
-same_length c = search rules
+shape_of-state : tie.Need-shape_of-state
+shape_of-state c = search rules
 
 returns : tie.Need-returns
 returns c =
-    let s = c.before.before.before.before.before.before.before.before.before.before.before.before.before.before in
-    let n = s.args.n in
-    let first = s.args.first in
-    let second = s.args.second in
-    let held = c.before.before.before.before.before.before.before.before.before.before.before.hold-roots in
-    let rest = c.before.before.before.before.before.before.before.store-resting in
-    let line = c.before.before.store-lines in
+    let n = c.args.n in
+    let first = c.args.first in
+    let second = c.args.second in
+    let held = c.hold_roots in
+    let rest = c.store_resting in
+    let line = c.store_lines in
     let same = ap₂ (λ (x : List Bool) (t : List ℕ). resting n x formatted_root t (Formatting 0)) held.ensures.0 held.ensures.1 in
     let m = resting n (free_beside n) formatted_root no_totals (Formatting 0) in
-    let long : length rest.new.0 ≡ state_words = rest.auto.0 ∙ held.auto.0 ∙ s.requires.0 in
+    let long : length rest.new.block ≡ state_words = rest.auto.block ∙ held.auto.state ∙ c.requires.0 in
     let sixteen = length-replicate {A = ℕ} family_count 0 in (
-      ap card_memory_in line.ensures ∙ card_lines rest.new.0 1 (n - (first + 1)) first second no_totals long sixteen m (rest.ensures.1 ∙ same),
-      line.ensures ∙ lines_block rest.new.0 1 (n - (first + 1)) first second no_totals long sixteen m (rest.ensures.0 ∙ ap resting_block same),
+      ap card_memory_in line.ensures ∙ card_lines rest.new.block 1 (n - (first + 1)) first second no_totals long sixteen m (rest.ensures.1 ∙ same),
+      line.ensures ∙ lines_block rest.new.block 1 (n - (first + 1)) first second no_totals long sixteen m (rest.ensures.0 ∙ ap resting_block same),
     )
 
 pub hold_format_spec : {M : Type 1} → statement M
 hold_format_spec =
     tie.close
     (tie.spec
-    hold-roots-requires
-    store-resting-requires
-    add_back
-    sub_back
-    cast-store-lines
-    slice-aggregate-store-lines
-    store-lines-requires
-    same_length
+    hold_roots-requires
+    store_resting-requires
+    overflow_add-back
+    overflow_sub-back
+    overflow_cast-back-2
+    store_lines-requires
+    shape_of-state
     returns)

@@ -15,34 +15,33 @@ use Rattle.call_start.specs.CardStarts.{free_beside}
 use Rattle.call_start.proofs.lines.hold_roots.Statement.{statement}
 use Rattle.call_start.proofs.lines.hold_roots.Tie as tie
 
-hold-empty-requires : tie.Need-hold-empty-requires
-hold-empty-requires c κs = search rules
+hold_empty-requires : tie.Need-hold_empty-requires
+hold_empty-requires c κs = search rules
 
-sub-take-out : tie.Need-overflow-sub-take-out
-sub-take-out c = search rules
+slice_bounds-take_out-count : tie.Need-slice_bounds-take_out-count
+slice_bounds-take_out-count c = search rules
 
-part-take-out-start : tie.Need-slice-bounds-take-out-start
-part-take-out-start c = search rules
+slice_bounds-take_out-start : tie.Need-slice_bounds-take_out-start
+slice_bounds-take_out-start c = search rules
 
-part-take-out-end : tie.Need-slice-bounds-take-out-end
-part-take-out-end c = search rules
+slice_bounds-take_out-end : tie.Need-slice_bounds-take_out-end
+slice_bounds-take_out-end c = search rules
 
-take-out-requires : tie.Need-take-out-requires
-take-out-requires c κs = search rules
+take_out-requires : tie.Need-take_out-requires
+take_out-requires c κs = search rules
 
-same_length : tie.Need-same-length
-same_length c = search rules
+shape_of-state : tie.Need-shape_of-state
+shape_of-state c = search rules
 
 returns : tie.Need-returns
 unfolding free_beside
 returns c =
-    let s = c.before.before.before.before.before.before.before.before.before in
-    let held = c.before.before.before.before.before.before.hold-empty in
-    let out = c.before.before.take_out in
-    let b = held.new.0 in
-    let long : length b ≡ state_words = held.auto.0 ∙ s.requires.0 in (
-      ap nodes_of (freed_part b out.new.0 long out.auto.0) ∙ out.ensures ∙ ap (λ (x : List Bool). set x second_root false) held.ensures.0,
-      ap (take family_count) (placed_after b out.new.0 free_at word_count (out.auto.0 ∙ free_span b out.new.0 long) (omega (arith, long)) totals_at (omega arith))
+    let held = c.hold_empty in
+    let out = c.take_out in
+    let b = held.new.state in
+    let long : length b ≡ state_words = held.auto.state ∙ c.requires.0 in (
+      ap nodes_of (freed_part b out.new.words long out.auto.words) ∙ out.ensures ∙ ap (λ (x : List Bool). set x second_root false) held.ensures.0,
+      ap (take family_count) (placed_after b out.new.words free_at word_count (out.auto.words ∙ free_span b out.new.words long) (omega (arith, long)) totals_at (omega arith))
           ∙ held.ensures.1,
     )
 
@@ -50,10 +49,10 @@ pub hold_roots_spec : {M : Type 1} → statement M
 hold_roots_spec =
     tie.close
     (tie.spec
-    hold-empty-requires
-    sub-take-out
-    part-take-out-start
-    part-take-out-end
-    take-out-requires
-    same_length
+    hold_empty-requires
+    slice_bounds-take_out-count
+    slice_bounds-take_out-start
+    slice_bounds-take_out-end
+    take_out-requires
+    shape_of-state
     returns)

@@ -9,24 +9,22 @@ use Rattle.call_start.proofs.TurnLaws.{room_most}
 use Rattle.call_start.proofs.turning.back_turned.Statement.{statement}
 use Rattle.call_start.proofs.turning.back_turned.Tie as tie
 
-neither-may-requires : tie.Need-neither-may-requires
-neither-may-requires c κs = search rules
+neither_may-requires : tie.Need-neither_may-requires
+neither_may-requires c κs = search rules
 
-room-left-requires : tie.Need-room-left-requires
-room-left-requires c κs = search rules
+room_left-requires : tie.Need-room_left-requires
+room_left-requires c κs = search rules
 
-add-result : tie.Need-overflow-add-result
-add-result c =
-    let s = c.before.before.before in
-    omega (arith, c.room-left.ensures, room_most s.args.state.now s.requires, c.before.neither-may.ensures.1, c.before.before.shared-slice-known.given 0)
+overflow_add-result : tie.Need-overflow_add-result
+overflow_add-result c =
+    omega (arith, c.room_left.ensures, room_most c.args.state.now c.requires, c.neither_may.ensures.1, c.shared_slice_known-1.given 0)
 
 returns : tie.Need-returns
 unfolding turned_back card_memory_in
-returns c =
-    let s = c.before.before.before in (
-      ap₂ (λ (a b : ℕ). a + b) c.before.neither-may.ensures.0 c.room-left.ensures,
-      omega (arith, c.room-left.ensures, room_most s.args.state.now s.requires, c.before.neither-may.ensures.1),
-    )
+returns c = (
+  ap₂ (λ (a b : ℕ). a + b) c.neither_may.ensures.0 c.room_left.ensures,
+  omega (arith, c.room_left.ensures, room_most c.args.state.now c.requires, c.neither_may.ensures.1),
+)
 
 pub back_turned_spec : {M : Type 1} → statement M
-back_turned_spec = tie.close (tie.spec neither-may-requires room-left-requires add-result returns)
+back_turned_spec = tie.close (tie.spec neither_may-requires room_left-requires overflow_add-result returns)

@@ -10,87 +10,86 @@ use Rattle.call_start.specs.CardStarts.{turned_words}
 use Rattle.call_start.proofs.turning.turn.Statement.{statement}
 use Rattle.call_start.proofs.turning.turn.Tie as tie
 
-slice-aggregate-copy-words : tie.Need-slice-aggregate-copy-words
-slice-aggregate-copy-words c = search rules
+slice_bounds-copy_words-end : tie.Need-slice_bounds-copy_words-end
+slice_bounds-copy_words-end c = search rules
 
-sub-copy-words : tie.Need-overflow-sub-copy-words
-sub-copy-words c = search rules
+slice_bounds-copy_words-count : tie.Need-slice_bounds-copy_words-count
+slice_bounds-copy_words-count c = search rules
 
-part-copy-words-start : tie.Need-slice-bounds-copy-words-start
-part-copy-words-start c = search rules
+slice_bounds-copy_words-start : tie.Need-slice_bounds-copy_words-start
+slice_bounds-copy_words-start c = search rules
 
-part-copy-words-end : tie.Need-slice-bounds-copy-words-end
-part-copy-words-end c = search rules
+slice_bounds-copy_words-end-2 : tie.Need-slice_bounds-copy_words-end-2
+slice_bounds-copy_words-end-2 c = search rules
 
-copy-words-requires : tie.Need-copy-words-requires
-copy-words-requires c κs = search rules
+copy_words-requires : tie.Need-copy_words-requires
+copy_words-requires c κs = search rules
 
-slice-aggregate-copy-words-2 : tie.Need-slice-aggregate-copy-words-2
-slice-aggregate-copy-words-2 c = search rules
+slice_bounds-copy_words-end-3 : tie.Need-slice_bounds-copy_words-end-3
+slice_bounds-copy_words-end-3 c = search rules
 
-sub-copy-words-2 : tie.Need-overflow-sub-copy-words-2
-sub-copy-words-2 c = search rules
+slice_bounds-copy_words-count-2 : tie.Need-slice_bounds-copy_words-count-2
+slice_bounds-copy_words-count-2 c = search rules
 
-part-copy-words-start-2 : tie.Need-slice-bounds-copy-words-start-2
-part-copy-words-start-2 c = search rules
+slice_bounds-copy_words-start-2 : tie.Need-slice_bounds-copy_words-start-2
+slice_bounds-copy_words-start-2 c = search rules
 
-part-copy-words-end-2 : tie.Need-slice-bounds-copy-words-end-2
-part-copy-words-end-2 c = search rules
+slice_bounds-copy_words-end-4 : tie.Need-slice_bounds-copy_words-end-4
+slice_bounds-copy_words-end-4 c = search rules
 
-copy-words-requires-2 : tie.Need-copy-words-requires-2
-copy-words-requires-2 c κs = search rules
+copy_words-requires-2 : tie.Need-copy_words-requires-2
+copy_words-requires-2 c κs = search rules
 
-slice-read-first : tie.Need-slice-read-first
-slice-read-first c = search rules
+bounds-state-258 : tie.Need-bounds-state-258
+bounds-state-258 c = search rules
 
-slice-read-second : tie.Need-slice-read-second
-slice-read-second c = search rules
+bounds-state-259 : tie.Need-bounds-state-259
+bounds-state-259 c = search rules
 
-slice-aggregate-store-totals : tie.Need-slice-aggregate-store-totals
-slice-aggregate-store-totals c = search rules
+slice_bounds-store_totals-end : tie.Need-slice_bounds-store_totals-end
+slice_bounds-store_totals-end c = search rules
 
-store-totals-requires : tie.Need-store-totals-requires
-store-totals-requires c κs = search rules
+store_totals-requires : tie.Need-store_totals-requires
+store_totals-requires c κs = search rules
 
-slice-aggregate-store-lines : tie.Need-slice-aggregate-store-lines
-slice-aggregate-store-lines c = search rules
+slice_bounds-store_lines-end : tie.Need-slice_bounds-store_lines-end
+slice_bounds-store_lines-end c = search rules
 
-store-lines-requires : tie.Need-store-lines-requires
-store-lines-requires c κs = search rules
+store_lines-requires : tie.Need-store_lines-requires
+store_lines-requires c κs = search rules
 
-same_length : tie.Need-same-length
-same_length c = search rules
+shape_of-state : tie.Need-shape_of-state
+shape_of-state c = search rules
 
 returns : tie.Need-returns
 unfolding turned_words
 returns c =
-    let s = c.before.before.before.before.before.before.before.before.before.before.before.before.before.before.before.before.before.before.before.before.before.before.before in
-    let b = s.args.state.now in
-    c.before.before.store-lines.ensures
-    ∙ ap₂ (λ (x y : List ℕ). over x lines_at (end_words s.args.line s.args.back (block_word b limits_at) (get_or b (limits_at + 1) 0) y))
-    (c.before.before.before.before.before.before.before.store-totals.ensures ∙ ap (over b totals_at)
-    c.before.before.before.before.before.before.before.before.before.before.before.before.before.copy-words2.ensures)
-    c.before.before.before.before.before.before.before.before.before.before.before.before.before.before.before.before.before.before.copy-words.ensures
+    let b = c.args.state.now in
+    c.store_lines.ensures
+    ∙ ap₂ (λ (x y : List ℕ). over x lines_at (end_words c.args.line c.args.back (block_word b limits_at) (get_or b (limits_at + 1) 0) y))
+    (c.store_totals.ensures ∙ ap (over b totals_at)
+    c.copy_words-2.ensures)
+    c.copy_words.ensures
 
 pub turn_spec : {M : Type 1} → statement M
 turn_spec =
     tie.close
     (tie.spec
-    slice-aggregate-copy-words
-    sub-copy-words
-    part-copy-words-start
-    part-copy-words-end
-    copy-words-requires
-    slice-aggregate-copy-words-2
-    sub-copy-words-2
-    part-copy-words-start-2
-    part-copy-words-end-2
-    copy-words-requires-2
-    slice-read-first
-    slice-read-second
-    slice-aggregate-store-totals
-    store-totals-requires
-    slice-aggregate-store-lines
-    store-lines-requires
-    same_length
+    slice_bounds-copy_words-end
+    slice_bounds-copy_words-count
+    slice_bounds-copy_words-start
+    slice_bounds-copy_words-end-2
+    copy_words-requires
+    slice_bounds-copy_words-end-3
+    slice_bounds-copy_words-count-2
+    slice_bounds-copy_words-start-2
+    slice_bounds-copy_words-end-4
+    copy_words-requires-2
+    bounds-state-258
+    bounds-state-259
+    slice_bounds-store_totals-end
+    store_totals-requires
+    slice_bounds-store_lines-end
+    store_lines-requires
+    shape_of-state
     returns)

@@ -7,47 +7,46 @@ use Rattle.call_start.proofs.TurnLaws.{turned_other, turned_same, block_other}
 use Rattle.call_start.proofs.turning.turn_to.Statement.{statement}
 use Rattle.call_start.proofs.turning.turn_to.Tie as tie
 
-slice-read-line-worked : tie.Need-slice-read-line-worked
-slice-read-line-worked c = search rules
+bounds-state-256 : tie.Need-bounds-state-256
+bounds-state-256 c = search rules
 
-line-worked-requires : tie.Need-line-worked-requires
-line-worked-requires c κs = search rules
+line_worked-requires : tie.Need-line_worked-requires
+line_worked-requires c κs = search rules
 
-back-turned-requires : tie.Need-back-turned-requires
-back-turned-requires c κs = search rules
+back_turned-back-requires : tie.Need-back_turned-back-requires
+back_turned-back-requires c κs = search rules
 
-cast-turn : tie.Need-overflow-cast-turn
-cast-turn c = search rules
+overflow_cast-back : tie.Need-overflow_cast-back
+overflow_cast-back c = search rules
 
 turn-requires : tie.Need-turn-requires
 turn-requires c κs = search rules
 
-same_length : tie.Need-same-length
-same_length c = search rules
+shape_of-state : tie.Need-shape_of-state
+shape_of-state c = search rules
 
-returns : tie.Need-returns
+returns-then-line-line_worked : tie.Need-returns-then-line-line_worked
 unfolding card_memory_in line_in
-returns c =
-    let s = c.before.before.before.before.before.before.before.before.before.before in
-    let b = s.args.state.now in
-    let other : s.args.line ≡ line_in (card_memory_in b) → ⊥ = λ e. c.before.before.before.before.before.before.if1.true (e
-    ∙ sym c.before.before.before.before.before.before.before.line-worked.ensures) in
-    let words = c.before.before.turn.ensures ∙ ap (turned_words b s.args.line) c.before.before.before.before.back-turned.ensures.0 in
-    (ap card_memory_in words ∙ turned_other b s.requires.0 s.args.line other, words ∙ block_other b s.args.line other)
+returns-then-line-line_worked c =
+    let b = c.args.state.now in
+    let other : c.args.line ≡ line_in (card_memory_in b) → ⊥ = λ e. c.if-line-line_worked.true (e
+    ∙ sym c.line_worked.ensures) in
+    let words = c.turn.ensures ∙ ap (turned_words b c.args.line) c.back_turned-back.ensures.0 in
+    (ap card_memory_in words ∙ turned_other b c.requires.0 c.args.line other, words ∙ block_other b c.args.line other)
 
-returns-2 : tie.Need-returns-2
+returns-else-line-line_worked : tie.Need-returns-else-line-line_worked
 unfolding card_memory_in line_in
-returns-2 c = let s = c.before.before.before.before in turned_same s.args.state.now s.args.line (c.if1.false ∙ c.before.line-worked.ensures)
+returns-else-line-line_worked c = turned_same c.args.state.now c.args.line (c.if-line-line_worked.false ∙ c.line_worked.ensures)
 
 pub turn_to_spec : {M : Type 1} → statement M
 turn_to_spec =
     tie.close
     (tie.spec
-    slice-read-line-worked
-    line-worked-requires
-    back-turned-requires
-    cast-turn
+    bounds-state-256
+    line_worked-requires
+    back_turned-back-requires
+    overflow_cast-back
     turn-requires
-    same_length
-    returns
-    returns-2)
+    shape_of-state
+    returns-then-line-line_worked
+    returns-else-line-line_worked)
