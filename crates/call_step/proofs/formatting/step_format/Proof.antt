@@ -11,121 +11,113 @@ use borrow.Author.Rules.{rules}
 use Rattle.call_step.proofs.formatting.step_format.Statement.{statement}
 use Rattle.call_step.proofs.formatting.step_format.Tie as tie
 
-slice-read-count : tie.Need-slice-read-count
-slice-read-count c = search rules
+bounds-state-3 : tie.Need-bounds-state-3
+bounds-state-3 c = search rules
+
+wide-made-requires : tie.Need-wide-made-requires
+wide-made-requires c κs = search rules
+
+store_format-requires : tie.Need-store_format-requires
+store_format-requires c κs =
+    let wide = c.wide-made in
+    let if1 = c.if-made-eq0 in
+    (c.requires.0, omega (arith, c.requires.2.words), omega (arith, wide.ensures, if1.true), omega (arith, c.requires.2.words, c.requires.2.most))
+
+shape_of-card-then-made-eq0 : tie.Need-shape_of-card-then-made-eq0
+shape_of-card-then-made-eq0 c = search rules
+
+shape_of-state-then-made-eq0 : tie.Need-shape_of-state-then-made-eq0
+shape_of-state-then-made-eq0 c = search rules
+
+returns-then-made-eq0 : tie.Need-returns-then-made-eq0
+returns-then-made-eq0 c =
+    let card = c.args.card.now in
+    let store_format = c.store_format in
+    let wide = c.wide-made in
+    let if1 = c.if-made-eq0 in
+    let b = c.args.state.now in
+    let f = store_format.ensures in
+    made_format card b 0 0 (format_first (block_word b 0) (length card) (block_word b 3) (sym wide.ensures ∙ if1.true))
+    c.requires.1 f.0 f.1 f.2
+
+bounds-state-0 : tie.Need-bounds-state-0
+bounds-state-0 c = search rules
 
 wide-requires : tie.Need-wide-requires
 wide-requires c κs = search rules
 
-store-format-requires : tie.Need-store-format-requires
-store-format-requires c κs =
-    let s = c.before.before.before.before.before.before.before in
-    let wide = c.before.before.before.wide in
-    let if1 = c.before.before.if1 in
-    (s.requires.0, omega (arith, s.requires.2.words), omega (arith, wide.ensures, if1.true), omega (arith, s.requires.2.words, s.requires.2.most))
+formatted_word-word-requires : tie.Need-formatted_word-word-requires
+formatted_word-word-requires c κs =
+    omega (arith, c.wide.ensures, c.requires.2.most)
 
-same_length : tie.Need-same-length
-same_length c = search rules
+store_format-requires-then-made-card : tie.Need-store_format-requires-then-made-card
+store_format-requires-then-made-card c κs =
+    let wide = c.wide-made in
+    let if2 = c.if-made-card in
+    (c.requires.0, omega (arith, wide.ensures, if2.true), omega (arith, wide.ensures, if2.true), omega (arith, c.requires.2.words, c.requires.2.most))
 
-same-length-2 : tie.Need-same-length-2
-same-length-2 c = search rules
+shape_of-card-then-made-card : tie.Need-shape_of-card-then-made-card
+shape_of-card-then-made-card c = search rules
 
-returns : tie.Need-returns
-returns c =
-    let s = c.before.before.before.before.before.before.before.before.before.before.before.before in
-    let card = s.args.card.now in
-    let store_format = c.before.before.before.before.store-format in
-    let wide = c.before.before.before.before.before.before.before.before.wide in
-    let if1 = c.before.before.before.before.before.before.before.if1 in
-    let b = s.args.state.now in
-    let f = store_format.ensures in
-    made_format card b 0 0 (format_first (block_word b 0) (length card) (block_word b 3) (sym wide.ensures ∙ if1.true))
-    s.requires.1 f.0 f.1 f.2
+shape_of-state-then-made-card : tie.Need-shape_of-state-then-made-card
+shape_of-state-then-made-card c = search rules
 
-slice-read-wide : tie.Need-slice-read-wide
-slice-read-wide c = search rules
-
-wide-requires-2 : tie.Need-wide-requires-2
-wide-requires-2 c κs = search rules
-
-formatted-word-requires : tie.Need-formatted-word-requires
-formatted-word-requires c κs =
-    let s = c.before.before.before.before.before.before.before.before in
-    omega (arith, c.wide2.ensures, s.requires.2.most)
-
-store-format-requires-2 : tie.Need-store-format-requires-2
-store-format-requires-2 c κs =
-    let s = c.before.before.before.before.before.before.before.before.before.before.before in
-    let wide = c.before.before.before.before.before.before.before.wide in
-    let if2 = c.before.before.before.before.before.if2 in
-    (s.requires.0, omega (arith, wide.ensures, if2.true), omega (arith, wide.ensures, if2.true), omega (arith, s.requires.2.words, s.requires.2.most))
-
-same-length-3 : tie.Need-same-length-3
-same-length-3 c = search rules
-
-same-length-4 : tie.Need-same-length-4
-same-length-4 c = search rules
-
-returns-2 : tie.Need-returns-2
-returns-2 c =
-    let s = c.before.before.before.before.before.before.before.before.before.before.before.before.before.before.before.before in
-    let card = s.args.card.now in
-    let store_format2 = c.before.before.before.before.store-format2 in
-    let if1 = c.before.before.before.before.before.before.before.before.before.before.before.if1 in
-    let wide = c.before.before.before.before.before.before.before.before.before.before.before.before.wide in
-    let if2 = c.before.before.before.before.before.before.before.before.before.before.if2 in
-    let formatted_word_lem = c.before.before.before.before.before.before.before.formatted-word in
-    let wide2 = c.before.before.before.before.before.before.before.before.wide2 in
-    let b = s.args.state.now in
+returns-then-made-card : tie.Need-returns-then-made-card
+returns-then-made-card c =
+    let card = c.args.card.now in
+    let store_format2 = c.store_format-then-made-card in
+    let if1 = c.if-made-eq0 in
+    let wide = c.wide-made in
+    let if2 = c.if-made-card in
+    let formatted_word_lem = c.formatted_word-word in
+    let wide2 = c.wide in
+    let b = c.args.state.now in
     let f = store_format2.ensures in
     made_format card b (block_word b 3) (formatted_word (block_word b 0) (block_word b 3))
     (format_middle (block_word b 0) (length card) (block_word b 3) (λ z. if1.false (wide.ensures ∙ z)) (omega (arith, wide.ensures, if2.true)))
-    s.requires.1 f.0
+    c.requires.1 f.0
     (f.1 ∙ ap (set card (block_word b 3)) (formatted_word_lem.ensures ∙ ap₂ formatted_word wide2.ensures wide.ensures))
     f.2
 
-store-format-requires-3 : tie.Need-store-format-requires-3
-store-format-requires-3 c κs =
-    let s = c.before.before.before.before.before.before.before.before.before in
-    let wide = c.before.before.before.before.before.wide in
-    let if3 = c.before.before.if3 in
-    (s.requires.0, omega (arith, s.requires.2.words), omega (arith, wide.ensures, if3.true), omega (arith, s.requires.2.words, s.requires.2.most))
+store_format-requires-then-made-card-2 : tie.Need-store_format-requires-then-made-card-2
+store_format-requires-then-made-card-2 c κs =
+    let wide = c.wide-made in
+    let if3 = c.if-made-card-2 in
+    (c.requires.0, omega (arith, c.requires.2.words), omega (arith, wide.ensures, if3.true), omega (arith, c.requires.2.words, c.requires.2.most))
 
-same-length-5 : tie.Need-same-length-5
-same-length-5 c = search rules
+shape_of-card-then-made-card-2 : tie.Need-shape_of-card-then-made-card-2
+shape_of-card-then-made-card-2 c = search rules
 
-same-length-6 : tie.Need-same-length-6
-same-length-6 c = search rules
+shape_of-state-then-made-card-2 : tie.Need-shape_of-state-then-made-card-2
+shape_of-state-then-made-card-2 c = search rules
 
-returns-3 : tie.Need-returns-3
-returns-3 c =
-    let s = c.before.before.before.before.before.before.before.before.before.before.before.before.before.before in
-    let card = s.args.card.now in
-    let store_format3 = c.before.before.before.before.store-format3 in
-    let if1 = c.before.before.before.before.before.before.before.before.before.if1 in
-    let wide = c.before.before.before.before.before.before.before.before.before.before.wide in
-    let if3 = c.before.before.before.before.before.before.before.if3 in
-    let b = s.args.state.now in
+returns-then-made-card-2 : tie.Need-returns-then-made-card-2
+returns-then-made-card-2 c =
+    let card = c.args.card.now in
+    let store_format3 = c.store_format-then-made-card-2 in
+    let if1 = c.if-made-eq0 in
+    let wide = c.wide-made in
+    let if3 = c.if-made-card-2 in
+    let b = c.args.state.now in
     let f = store_format3.ensures in
     made_format card b 0 1
     (format_last (block_word b 0) (length card) (block_word b 3) (λ z. if1.false (wide.ensures ∙ z)) (sym wide.ensures ∙ if3.true))
-    s.requires.1 f.0 f.1 f.2
+    c.requires.1 f.0 f.1 f.2
 
 finish-requires : tie.Need-finish-requires
 finish-requires c κs = search rules
 
-same-length-7 : tie.Need-same-length-7
-same-length-7 c = search rules
+shape_of-state : tie.Need-shape_of-state
+shape_of-state c = search rules
 
-returns-4 : tie.Need-returns-4
-returns-4 c =
-    let s = c.before.before.before.before.before.before.before.before.before.before.before in
-    let card = s.args.card.now in
-    let wide = c.before.before.before.before.before.before.before.wide in
-    let if2 = c.before.before.before.before.before.if2 in
-    let if3 = c.before.before.before.before.if3 in
-    let finish = c.before.before.finish in
-    let b = s.args.state.now in
+returns : tie.Need-returns
+returns c =
+    let card = c.args.card.now in
+    let wide = c.wide-made in
+    let if2 = c.if-made-card in
+    let if3 = c.if-made-card-2 in
+    let finish = c.finish in
+    let b = c.args.state.now in
     made_formatted card b
     (format_end (block_word b 0) (length card) (block_word b 3) (past _ _ (omega (arith, wide.ensures, if2.false)) (λ z. if3.false (wide.ensures ∙ z))))
     finish.ensures
@@ -134,23 +126,23 @@ pub step_format_spec : {M : Type 1} → statement M
 step_format_spec =
     tie.close
     (tie.spec
-    slice-read-count
+    bounds-state-3
+    wide-made-requires
+    store_format-requires
+    shape_of-card-then-made-eq0
+    shape_of-state-then-made-eq0
+    returns-then-made-eq0
+    bounds-state-0
     wide-requires
-    store-format-requires
-    same_length
-    same-length-2
-    returns
-    slice-read-wide
-    wide-requires-2
-    formatted-word-requires
-    store-format-requires-2
-    same-length-3
-    same-length-4
-    returns-2
-    store-format-requires-3
-    same-length-5
-    same-length-6
-    returns-3
+    formatted_word-word-requires
+    store_format-requires-then-made-card
+    shape_of-card-then-made-card
+    shape_of-state-then-made-card
+    returns-then-made-card
+    store_format-requires-then-made-card-2
+    shape_of-card-then-made-card-2
+    shape_of-state-then-made-card-2
+    returns-then-made-card-2
     finish-requires
-    same-length-7
-    returns-4)
+    shape_of-state
+    returns)

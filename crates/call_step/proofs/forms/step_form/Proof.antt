@@ -16,127 +16,123 @@ use Rattle.call_step.proofs.FormLaws.{past, form_first, form_middle, form_last, 
 use Rattle.call_step.proofs.forms.step_form.Statement.{statement}
 use Rattle.call_step.proofs.forms.step_form.Tie as tie
 
-slice-read-count : tie.Need-slice-read-count
-slice-read-count c = search rules
+bounds-state-3 : tie.Need-bounds-state-3
+bounds-state-3 c = search rules
 
-wide-requires : tie.Need-wide-requires
-wide-requires c κs = search rules
+wide-made-requires : tie.Need-wide-made-requires
+wide-made-requires c κs = search rules
 
-store-format-requires : tie.Need-store-format-requires
-store-format-requires c κs = search rules
+store_format-requires : tie.Need-store_format-requires
+store_format-requires c κs = search rules
 
-same_length : tie.Need-same-length
-same_length c = search rules
+shape_of-card-then-made-eq0 : tie.Need-shape_of-card-then-made-eq0
+shape_of-card-then-made-eq0 c = search rules
 
-same-length-2 : tie.Need-same-length-2
-same-length-2 c = search rules
+shape_of-state-then-made-eq0 : tie.Need-shape_of-state-then-made-eq0
+shape_of-state-then-made-eq0 c = search rules
 
-returns : tie.Need-returns
-returns c =
-    let s = c.before.before.before.before.before.before.before.before.before.before.before.before in
-    let card = s.args.card.now in
-    let b = s.args.state.now in
-    let wide = c.before.before.before.before.before.before.before.before.wide in
-    let f = c.before.before.before.before.store-format.ensures in
+returns-then-made-eq0 : tie.Need-returns-then-made-eq0
+returns-then-made-eq0 c =
+    let card = c.args.card.now in
+    let b = c.args.state.now in
+    let wide = c.wide-made in
+    let f = c.store_format.ensures in
     made_format card b 0 0 (form_first (card_memory_in b) (length card) (block_word b 3)
-    (sym wide.ensures ∙ c.before.before.before.before.before.before.before.if1.true)) s.requires.1 f.0 f.1 f.2
+    (sym wide.ensures ∙ c.if-made-eq0.true)) c.requires.1 f.0 f.1 f.2
 
-form-word-requires : tie.Need-form-word-requires
-form-word-requires c κs = search rules
+form_word-word-requires : tie.Need-form_word-word-requires
+form_word-word-requires c κs = search rules
 
-store-format-requires-2 : tie.Need-store-format-requires-2
-store-format-requires-2 c κs = search rules
+store_format-requires-then-made-card : tie.Need-store_format-requires-then-made-card
+store_format-requires-then-made-card c κs = search rules
 
-same-length-3 : tie.Need-same-length-3
-same-length-3 c = search rules
+shape_of-card-then-made-card : tie.Need-shape_of-card-then-made-card
+shape_of-card-then-made-card c = search rules
 
-same-length-4 : tie.Need-same-length-4
-same-length-4 c = search rules
+shape_of-state-then-made-card : tie.Need-shape_of-state-then-made-card
+shape_of-state-then-made-card c = search rules
 
-returns-2 : tie.Need-returns-2
+returns-then-made-card : tie.Need-returns-then-made-card
 unfolding card_memory_in memory_in
-returns-2 c =
-    let s = c.before.before.before.before.before.before.before.before.before.before.before.before.before.before.before in
-    let card = s.args.card.now in
-    let b = s.args.state.now in
-    let wide = c.before.before.before.before.before.before.before.before.before.before.before.wide in
-    let f = c.before.before.before.before.store-format2.ensures in
+returns-then-made-card c =
+    let card = c.args.card.now in
+    let b = c.args.state.now in
+    let wide = c.wide-made in
+    let f = c.store_format-then-made-card.ensures in
     let word : ℕ → ℕ = λ i. pick (eqb (block_word b lines_at) 0) (formatted_word (block_word b 0) i)
     (lines_word (block_word b 0) (block_word b limits_at) (get_or b (limits_at + 1) 0) i) in
     made_format card b (block_word b 3) (word (block_word b 3))
     (form_middle (card_memory_in b) (length card) (block_word b 3)
-    (λ z. c.before.before.before.before.before.before.before.before.before.before.if1.false (wide.ensures ∙ z))
-    (omega (arith, wide.ensures, c.before.before.before.before.before.before.before.before.before.if2.true)))
-    s.requires.1 f.0 (f.1 ∙ ap (set card (block_word b 3)) (c.before.before.before.before.before.before.before.form-word.ensures ∙ ap word wide.ensures)) f.2
+    (λ z. c.if-made-eq0.false (wide.ensures ∙ z))
+    (omega (arith, wide.ensures, c.if-made-card.true)))
+    c.requires.1 f.0 (f.1 ∙ ap (set card (block_word b 3)) (c.form_word-word.ensures ∙ ap word wide.ensures)) f.2
 
-slice-read-form-mark : tie.Need-slice-read-form-mark
-slice-read-form-mark c = search rules
+bounds-state-256 : tie.Need-bounds-state-256
+bounds-state-256 c = search rules
 
-form-mark-requires : tie.Need-form-mark-requires
-form-mark-requires c κs = search rules
+form_mark-mark-requires : tie.Need-form_mark-mark-requires
+form_mark-mark-requires c κs = search rules
 
-store-format-requires-3 : tie.Need-store-format-requires-3
-store-format-requires-3 c κs = search rules
+store_format-requires-then-made-card-2 : tie.Need-store_format-requires-then-made-card-2
+store_format-requires-then-made-card-2 c κs = search rules
 
-same-length-5 : tie.Need-same-length-5
-same-length-5 c = search rules
+shape_of-card-then-made-card-2 : tie.Need-shape_of-card-then-made-card-2
+shape_of-card-then-made-card-2 c = search rules
 
-same-length-6 : tie.Need-same-length-6
-same-length-6 c = search rules
+shape_of-state-then-made-card-2 : tie.Need-shape_of-state-then-made-card-2
+shape_of-state-then-made-card-2 c = search rules
 
-returns-3 : tie.Need-returns-3
+returns-then-made-card-2 : tie.Need-returns-then-made-card-2
 unfolding card_memory_in
-returns-3 c =
-    let s = c.before.before.before.before.before.before.before.before.before.before.before.before.before.before.before.before in
-    let card = s.args.card.now in
-    let b = s.args.state.now in
-    let wide = c.before.before.before.before.before.before.before.before.before.before.before.before.wide in
-    let f = c.before.before.before.before.store-format3.ensures in
+returns-then-made-card-2 c =
+    let card = c.args.card.now in
+    let b = c.args.state.now in
+    let wide = c.wide-made in
+    let f = c.store_format-then-made-card-2.ensures in
     made_format card b 0 (pick (eqb (block_word b lines_at) 0) 1 second_mark)
     (form_last (card_memory_in b) (length card) (block_word b 3)
-    (λ z. c.before.before.before.before.before.before.before.before.before.before.before.if1.false (wide.ensures ∙ z))
-    (sym wide.ensures ∙ c.before.before.before.before.before.before.before.before.before.if3.true))
-    s.requires.1 f.0 (f.1 ∙ ap (set card 0) c.before.before.before.before.before.before.before.form-mark.ensures) f.2
+    (λ z. c.if-made-eq0.false (wide.ensures ∙ z))
+    (sym wide.ensures ∙ c.if-made-card-2.true))
+    c.requires.1 f.0 (f.1 ∙ ap (set card 0) c.form_mark-mark.ensures) f.2
 
 finish-requires : tie.Need-finish-requires
 finish-requires c κs = search rules
 
-same-length-7 : tie.Need-same-length-7
-same-length-7 c = search rules
+shape_of-state : tie.Need-shape_of-state
+shape_of-state c = search rules
 
-returns-4 : tie.Need-returns-4
-returns-4 c =
-    let s = c.before.before.before.before.before.before.before.before.before.before.before in
-    let card = s.args.card.now in
-    let b = s.args.state.now in
-    let wide = c.before.before.before.before.before.before.before.wide in
+returns : tie.Need-returns
+returns c =
+    let card = c.args.card.now in
+    let b = c.args.state.now in
+    let wide = c.wide-made in
     made_formatted card b
     (form_end (card_memory_in b) (length card) (block_word b 3)
-    (past _ _ (omega (arith, wide.ensures, c.before.before.before.before.before.if2.false))
-    (λ z. c.before.before.before.before.if3.false (wide.ensures ∙ z))))
-    c.before.before.finish.ensures
+    (past _ _ (omega (arith, wide.ensures, c.if-made-card.false))
+    (λ z. c.if-made-card-2.false (wide.ensures ∙ z))))
+    c.finish.ensures
 
 pub step_form_spec : {M : Type 1} → statement M
 step_form_spec =
     tie.close
     (tie.spec
-    slice-read-count
-    wide-requires
-    store-format-requires
-    same_length
-    same-length-2
-    returns
-    form-word-requires
-    store-format-requires-2
-    same-length-3
-    same-length-4
-    returns-2
-    slice-read-form-mark
-    form-mark-requires
-    store-format-requires-3
-    same-length-5
-    same-length-6
-    returns-3
+    bounds-state-3
+    wide-made-requires
+    store_format-requires
+    shape_of-card-then-made-eq0
+    shape_of-state-then-made-eq0
+    returns-then-made-eq0
+    form_word-word-requires
+    store_format-requires-then-made-card
+    shape_of-card-then-made-card
+    shape_of-state-then-made-card
+    returns-then-made-card
+    bounds-state-256
+    form_mark-mark-requires
+    store_format-requires-then-made-card-2
+    shape_of-card-then-made-card-2
+    shape_of-state-then-made-card-2
+    returns-then-made-card-2
     finish-requires
-    same-length-7
-    returns-4)
+    shape_of-state
+    returns)
