@@ -3,7 +3,6 @@ use mathlib.Core.Path.{refl, ap, ap₂, sym, ◌∙◌}
 use Prim.Native.Nat.{ℕ, ◌+◌, ◌<◌}
 use native.Mathlib.Omega.{arith}
 use borrow.Author.Rules.{rules}
-use borrow.Author.Tests.{not-true, not-false}
 use Rattle.card_family.specs.Families.{family_count}
 use Rattle.state.specs.Block.{block_word}
 use Rattle.state.specs.declared.families.Total.TheVariants.{Pairs}
