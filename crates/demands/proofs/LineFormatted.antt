@@ -10,7 +10,6 @@ use Rattle.laws.specs.Totals.{indicator, total}
 use Rattle.laws.proofs.Totals.{total_length}
 use Rattle.card.specs.Forms.{form_refusal}
 use Rattle.card.specs.Lines.{IsLine, has_line, seen}
-use Rattle.card.specs.Replies.{ready}
 use Rattle.card.proofs.FormLaws.{one_accepted, one_has}
 use Rattle.card.proofs.LineLaws.{seen_only, seen_sized, line_one, has_is}
 use Rattle.card_family.proofs.FamilyLaws.{totals_none}

@@ -7,7 +7,7 @@ use Prim.Native.Nat.{ℕ, suc, ◌+◌, ◌*◌, ◌≤◌, ◌<◌}
 use native.Mathlib.Omega.{arith}
 use lib.ListN.{length, set, get_or, length-append}
 use Rattle.card.specs.Layout.{lowest_key, key_limit, depth_limit, place, node_at, slot_pairs, leaf_pairs}
-use Rattle.card.specs.Stores.{Store, stores, node_stores}
+use Rattle.card.specs.Stores.{Store, node_stores}
 use Rattle.change_plan.specs.Change.{split_leaf}
 use Rattle.change_plan.specs.Planning.{Preparation, take_numbers, without_all, last_of, giving, first, second, third, balanced, prepared}
 use Rattle.change_plan.proofs.NumberLaws.{giving_some}
@@ -54,7 +54,6 @@ use Rattle.demands.proofs.Slots.{slot_holds, slots_full}
 use Rattle.demands.proofs.Steps.{memory, Busy, job_busy, step_idle, step_stores, prepared_ready, prepared_first, step_repairs, step_puts, step_removes}
 use Rattle.demands.proofs.Work.{settled_idle}
 use Rattle.theory_check.proofs.Depth.{table_depth}
-use Rattle.theory_check.proofs.Found.{found}
 use Rattle.state.specs.Steps.{Step, step_refused, is_idle}
 use Rattle.call_step.specs.Calls.{step_prepared, step_of}
 use Rattle.state.specs.Memory.{Memory, idled, advanced}
