@@ -159,3 +159,8 @@ module _ (greatest : ℕ) (card : List ℕ) (n : ℕ) (e : n ≡ nodes_of_length
 
 pub card_sized : (greatest : ℕ) (card : List ℕ) → card_refusal greatest card ≡ 0 → nodes_of_length greatest (length card) ≡ 0 → ⊥
 card_sized greatest card r z = let w = sym (card_no_length greatest card (nodes_of_length greatest (length card)) refl z) ∙ r in omega arith
+
+-- on a card of n nodes the refusal is the header's
+pub sized_header : {greatest n : ℕ} (card : List ℕ) → Sized greatest (length card) n → card_refusal greatest card ≡ header_refusal card n
+sized_header {greatest} {n} card s =
+    card_header greatest card n (sym (sized_nodes greatest (length card) n s)) (λ z. let k : least_nodes ≤ n = s.least in omega arith)

@@ -10,3 +10,5 @@ pub mod Stores
 pub mod Replies
 -- document 02, W-207: the lines of a card, and a line's table as one of its own
 pub mod Lines
+-- the refusals and their numbers
+pub mod Refusals

@@ -11,10 +11,15 @@
 
 #![tactic(auto)]
 
-ghost use Rattle.std.specs.Prelude.{◌≡◌, true, false, ◌+◌, ◌*◌, ◌≤◌, length, get_or};
+mod refusal;
+
+ghost use Rattle.std.specs.Prelude.{◌≡◌, ℕ, true, false, ◌+◌, ◌*◌, ◌≤◌, length, get_or, unwrap_or, Some, Ok};
 ghost use Rattle.card.specs.Layout.{greatest_nodes, limited, node_at, children, is_key, leaf_pairs};
 ghost use Rattle.card.specs.Lines.{IsLine, has_line, root_of, on_line};
 ghost use Rattle.card.specs.Header.{nodes_of_length, header_refusal, card_refusal, Sized};
+ghost use Rattle.card.specs.Refusals.{number_of};
+
+pub use refusal::Refusal;
 
 // The numbers of the drawing: the only places in code where they stand.
 pub const MARK: u32 = 1;
@@ -100,20 +105,21 @@ pub fn limit(greatest: usize) -> usize
     }
 }
 
-// How many nodes a card of so many words has; 0 where no card has that length.
-pub fn nodes_of(length: usize, greatest: usize) -> usize
-    ensures { result ≡ nodes_of_length greatest length }
+// How many nodes a card of so many words has, where there is a card of that length.
+pub fn nodes_of(length: usize, greatest: usize) -> Option<usize>
+    ensures value { unwrap_or result 0 ≡ nodes_of_length greatest length }
+    ensures sized { (n : ℕ) → result ≡ Some n → Sized greatest length n }
 {
     if length < HEADER_WORDS + NODE_WORDS * LEAST_NODES {
-        return 0;
+        return None;
     }
     if HEADER_WORDS + NODE_WORDS * limit(greatest) < length {
-        return 0;
+        return None;
     }
     if (length - HEADER_WORDS) % NODE_WORDS == 0 {
-        (length - HEADER_WORDS) / NODE_WORDS
+        Some((length - HEADER_WORDS) / NODE_WORDS)
     } else {
-        0
+        None
     }
 }
 
@@ -130,44 +136,43 @@ pub fn is_sized(length: usize, n: usize, greatest: usize) -> bool
     length == HEADER_WORDS + NODE_WORDS * n
 }
 
-// The refusal that words 0 to 3 and 5 to 7 of a card with n nodes are due: 2, 3, or 0 for none.
-pub fn header_refusal(card: &[u32], n: usize) -> u32
+// Words 0 to 3 and 5 to 7 of a card with n nodes are as they must be, or refused with 2 or 3.
+pub fn check_header(card: &[u32], n: usize) -> Result<(), Refusal>
     requires { 8 ≤ length card.now }
-    ensures { result ≡ header_refusal card.now n }
+    ensures { number_of result ≡ header_refusal card.now n }
 {
     if card[0] != MARK {
-        return 2;
+        return Err(Refusal::WrongMark);
     }
     if card[1] as usize != n {
-        return 3;
+        return Err(Refusal::WrongHeader);
     }
     if card[2] != HEADER_WORDS as u32 {
-        return 3;
+        return Err(Refusal::WrongHeader);
     }
     if card[3] != NODE_WORDS as u32 {
-        return 3;
+        return Err(Refusal::WrongHeader);
     }
     if card[5] != 0 {
-        return 3;
+        return Err(Refusal::WrongHeader);
     }
     if card[6] != 0 {
-        return 3;
+        return Err(Refusal::WrongHeader);
     }
     if card[7] != 0 {
-        return 3;
+        return Err(Refusal::WrongHeader);
     }
-    0
+    Ok(())
 }
 
-// The refusals 1, 2 and 3 of a call on a card, in this order; 0 where none is due.
-pub fn card_refusal(card: &[u32], greatest: usize) -> u32
-    ensures { result ≡ card_refusal greatest card.now }
+// How many nodes a card has that is refused with none of 1, 2 and 3, in this order.
+pub fn checked_nodes(card: &[u32], greatest: usize) -> Result<usize, Refusal>
+    ensures refused { number_of result ≡ card_refusal greatest card.now }
+    ensures sized { (n : ℕ) → result ≡ Ok n → Sized greatest (length card.now) n }
 {
-    let n = nodes_of(card.len(), greatest);
-    if n == 0 {
-        return 1;
-    }
-    header_refusal(card, n)
+    let n = nodes_of(card.len(), greatest).ok_or(Refusal::WrongLength)?;
+    check_header(card, n)?;
+    Ok(n)
 }
 
 // Whether a card has a line of this number: one with mark 1 has line 1, one with mark 2 has lines 1 and 2 (document 02, W-207).
