@@ -34,7 +34,7 @@ use Rattle.state.specs.Memory.{no_memory, resting, idled, settled_phase, settled
 use Rattle.card_family.specs.Families.{family_of, several_in}
 use Rattle.card_check.specs.Counting.{keys_counted, children_counted, node_counted, table_counted}
 use Rattle.call_change.specs.Updates.{landing, empty_reason, reason_in, insert_reason, insert_change, delete_change, room_for, start_room, next_change, in_leaf, no_way}
-use Rattle.state.specs.declared.Answer.TheVariants.{Absent, Value}
+use Rattle.state.specs.Answer.{Absent, Value}
 use Rattle.state.specs.declared.Doing.TheVariants.{Idle}
 use Rattle.bench.specs.Cards.{Bench, on_answer, drive, fresh, insert_whole, delete_whole, steps, upto, said, card_l, card_b, card_s, card_i}
 use Rattle.bench.specs.Cards.{card_k, card_l2, cut_b, again_b, cut_i, split_i, row_a, row_b, row_c, row_d, row_e, row_f, row_g104, row_g80, row_g103}

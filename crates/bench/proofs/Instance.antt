@@ -39,8 +39,8 @@ use Rattle.call_start.specs.Starts.{format_of, start_refused, start_accepted, st
 use Rattle.call_step.specs.Calls.{step_of, planning, step_prepared, step_begin, step_held, step_task, placed_on, on_card, step_checked}
 use Rattle.state.specs.Steps.{no_beginning, step_refused, step_final, formatted_word, format_store, formatting_from, step_format, step_store, is_idle, held_by}
 use Rattle.state.specs.declared.Doing.TheVariants.{Idle}
-use Rattle.state.specs.declared.Answer.{Answer}
-use Rattle.state.specs.declared.Answer.TheVariants.{Stored, Ready, Absent, Value, Refused}
+use Rattle.state.specs.Answer.{Answer}
+use Rattle.state.specs.Answer.{Stored, Ready, Absent, Value, Refused}
 use Rattle.card.specs.Replies.{holds, absent, ready}
 use Rattle.demands.specs.Book.{book, empty, added, entered, fed_start, fed_step, feed, outcome, told, kept}
 use Rattle.demands.specs.Demand3.{Survives}

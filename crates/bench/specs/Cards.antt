@@ -14,8 +14,8 @@ use Rattle.call_start.specs.Starts.{format_of, insert_of, delete_of}
 use Rattle.call_step.specs.Calls.{step_of}
 use Rattle.state.specs.Steps.{Handed, Step}
 use Rattle.state.specs.Memory.{Memory}
-use Rattle.state.specs.declared.Answer.{Answer}
-use Rattle.state.specs.declared.Answer.TheVariants.{Stored, Ready, Absent, Value, Refused}
+use Rattle.state.specs.Answer.{Answer}
+use Rattle.state.specs.Answer.{Stored, Ready, Absent, Value, Refused}
 
 -- a card being worked, with the stores of its last call counted and that call's final answer
 pub record Bench : Type 0 where

@@ -14,7 +14,7 @@ use Rattle.call_open.specs.Opening.{open_sound, open_checked, open_of}
 use Rattle.state.specs.Steps.{no_beginning}
 use Rattle.state.specs.Memory.{resting}
 use Rattle.state.specs.declared.Doing.TheVariants.{Idle, Repairing}
-use Rattle.state.specs.declared.Begun.TheVariants.{Idle as OpenedIdle, Started}
+use Rattle.state.specs.Begun.{Idle as OpenedIdle, Started}
 
 pub open_refused : (greatest : ℕ) (card : List ℕ) → (card_refusal greatest card ≡ 0 → ⊥) → open_of greatest card ≡ no_beginning (card_refusal greatest card)
 unfolding open_of

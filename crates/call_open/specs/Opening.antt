@@ -10,7 +10,7 @@ use Rattle.card_check.specs.Counting.{table_counted}
 use Rattle.state.specs.Memory.{resting}
 use Rattle.state.specs.Steps.{Handed, no_beginning}
 use Rattle.state.specs.declared.Doing.TheVariants.{Idle, Repairing}
-use Rattle.state.specs.declared.Begun.TheVariants.{Idle as OpenedIdle, Started}
+use Rattle.state.specs.Begun.{Idle as OpenedIdle, Started}
 
 -- "5: free nodes fewer than 3 plus the 11-child nodes without a break straight above a tagged node"; "an idle state, or one
 -- with the repair in progress"; `last` is taken for the node given last, and these are the totals

@@ -15,7 +15,7 @@ use Rattle.card_check.specs.Check.{Findings, table_check}
 use Rattle.card_check.specs.Counting.{table_counted}
 use Rattle.state.specs.Memory.{Memory, no_memory}
 use Rattle.state.specs.Steps.{is_idle, no_beginning}
-use Rattle.state.specs.declared.Begun.TheVariants.{Refused}
+use Rattle.state.specs.Begun.{Refused}
 use Rattle.card.specs.Layout.{search_start}
 use Rattle.call_open.specs.Opening.{open_sound, open_checked, open_of}
 use Rattle.call_step.specs.Calls.{step_of, repair_steps}

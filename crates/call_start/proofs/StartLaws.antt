@@ -36,8 +36,8 @@ use Rattle.state.specs.Clauses.{StartCall}
 use Rattle.state.proofs.Blocks.{with_doing, memory_begun, with_depth, memory_deep, begun_length}
 use Rattle.state.specs.declared.Doing.{Doing}
 use Rattle.state.specs.declared.Doing.TheVariants.{Formatting}
-use Rattle.state.specs.declared.Begun.{Begun}
-use Rattle.state.specs.declared.Begun.TheVariants.{Started, Refused as BegunRefused}
+use Rattle.state.specs.Begun.{Begun}
+use Rattle.state.specs.Begun.{Started, Refused as BegunRefused}
 
 -- "1: length not 8 + 24 × N, N 4 to 600; or N not the state's"
 pub start_unsized : (greatest line : ℕ) (card : List ℕ) (nodes : ℕ) (idle : Bool) (key : ℕ) → (Sized greatest (length card) nodes → ⊥) → start_refusal greatest line card nodes idle key ≡ 1

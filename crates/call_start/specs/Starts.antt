@@ -14,7 +14,7 @@ use Rattle.state.specs.Memory.{Memory, resting}
 use Rattle.state.specs.declared.Doing.{Doing}
 use Rattle.state.specs.declared.Doing.TheVariants.{Formatting, Inserting, Deleting}
 use Rattle.state.specs.declared.Phase.TheVariants.{NotBegun}
-use Rattle.state.specs.declared.Begun.TheVariants.{Started, Refused as BegunRefused}
+use Rattle.state.specs.Begun.{Started, Refused as BegunRefused}
 use Rattle.state.specs.Steps.{is_idle, Handed, no_beginning}
 
 -- STARTING TO FORMAT. "Formatting needs no earlier state"; while it goes on the free nodes are those of the table it makes, and the

@@ -32,8 +32,8 @@ use Rattle.state.specs.Memory.{Memory, advanced}
 use Rattle.state.specs.Results.{more_to_store}
 use Rattle.state.specs.Steps.{Step, held_by, step_store}
 use Rattle.state.specs.Block.{free_at, places_at, values_at, state_words, block_word, part, memory_in}
-use Rattle.state.specs.declared.Answer.{Answer}
-use Rattle.state.specs.declared.Answer.TheVariants.{Stored, Ready, Absent, Value, Refused}
+use Rattle.state.specs.Answer.{Answer}
+use Rattle.state.specs.Answer.{Stored, Ready, Absent, Value, Refused}
 use Rattle.state.specs.declared.Doing.{Doing}
 use Rattle.state.specs.declared.Task.{Task}
 use Rattle.state.specs.declared.Held.TheVariants.{Task as HeldTask}

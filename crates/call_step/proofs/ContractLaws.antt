@@ -11,8 +11,8 @@ use Rattle.state.specs.Memory.{advanced}
 use Rattle.state.specs.Results.{more_to_store}
 use Rattle.state.specs.Steps.{Step, held_by, step_refused, step_final, formatting_from, step_format, step_store}
 use Rattle.state.specs.Block.{places_at, values_at, state_words, block_word, part, doing_in, memory_in}
-use Rattle.state.specs.declared.Answer.{Answer}
-use Rattle.state.specs.declared.Answer.TheVariants.{Stored, Ready, Absent, Value, Refused}
+use Rattle.state.specs.Answer.{Answer}
+use Rattle.state.specs.Answer.{Stored, Ready, Absent, Value, Refused}
 use Rattle.state.proofs.StepLaws.{store_outside, store_inside}
 use Rattle.call_step.specs.StepBlocks.{idled_block, played_block, stored_block, step_block}
 use Rattle.call_step.specs.Clauses.{StepMade, HoldsTask}

@@ -22,8 +22,8 @@ use Rattle.state.specs.Block.{places_at, values_at, state_words, block_word, par
 use Rattle.state.specs.Memory.{Memory, advanced}
 use Rattle.state.specs.Results.{more_to_store}
 use Rattle.state.specs.Steps.{Step, step_refused, step_final, step_store}
-use Rattle.state.specs.declared.Answer.{Answer}
-use Rattle.state.specs.declared.Answer.TheVariants.{Stored, Ready, Absent, Value, Refused}
+use Rattle.state.specs.Answer.{Answer}
+use Rattle.state.specs.Answer.{Stored, Ready, Absent, Value, Refused}
 use Rattle.state.specs.declared.Doing.{Doing}
 use Rattle.state.specs.declared.Task.{Task}
 use Rattle.call_step.specs.Calls.{planning, step_prepared, step_begin, step_task, placed_on, on_card}

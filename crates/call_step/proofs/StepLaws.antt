@@ -19,8 +19,8 @@ use Rattle.state.specs.Memory.{Memory, advanced}
 use Rattle.state.specs.Results.{more_to_store}
 use Rattle.state.specs.Steps.{Step, is_idle, held_by, step_refused, step_store, format_store, step_format}
 use Rattle.state.specs.Block.{state_words, block_word, doing_in, memory_in}
-use Rattle.state.specs.declared.Answer.{Answer}
-use Rattle.state.specs.declared.Answer.TheVariants.{Ready, Absent, Value, Refused}
+use Rattle.state.specs.Answer.{Answer}
+use Rattle.state.specs.Answer.{Ready, Absent, Value, Refused}
 use Rattle.state.specs.declared.Doing.{Doing}
 use Rattle.state.specs.declared.Doing.TheVariants.{Idle, Formatting, Inserting, Deleting, Repairing}
 use Rattle.state.specs.declared.Phase.TheVariants.{NotBegun, InHand, Decided}

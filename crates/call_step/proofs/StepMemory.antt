@@ -43,8 +43,8 @@ use Rattle.state.specs.declared.Phase.TheVariants.{NotBegun, InHand, Decided}
 use Rattle.state.specs.declared.Task.{Task}
 use Rattle.state.specs.declared.Held.{Held}
 use Rattle.state.specs.declared.Held.TheVariants.{Nothing, Formatting as HeldFormatting, Task as HeldTask}
-use Rattle.state.specs.declared.Answer.{Answer}
-use Rattle.state.specs.declared.Answer.TheVariants.{Stored, Ready, Absent, Value, Refused}
+use Rattle.state.specs.Answer.{Answer}
+use Rattle.state.specs.Answer.{Stored, Ready, Absent, Value, Refused}
 use Rattle.state.proofs.Tasks.{TaskOf, putting, taking, put, taken, opened, task_of}
 use Rattle.call_step.specs.Calls.{planning, step_prepared, step_begin, step_task, placed_on, on_card, step_checked, step_held, step_of}
 use Rattle.call_step.specs.StepBlocks.{played_block, planned_block, first_stored, stored_block, step_block}

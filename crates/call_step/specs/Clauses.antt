@@ -6,8 +6,8 @@ use Rattle.state.specs.Steps.{Step, held_by}
 use Rattle.state.specs.declared.Doing.{Doing}
 use Rattle.state.specs.declared.Task.{Task}
 use Rattle.state.specs.declared.Held.TheVariants.{Task as HeldTask}
-use Rattle.state.specs.declared.Answer.{Answer}
-use Rattle.state.specs.declared.Answer.TheVariants.{Refused}
+use Rattle.state.specs.Answer.{Answer}
+use Rattle.state.specs.Answer.{Refused}
 use Rattle.state.specs.Block.{state_words, memory_in}
 use Rattle.change_decide.specs.Places.{Fits}
 use Rattle.change_decide.specs.declared.Decision.{Decision}

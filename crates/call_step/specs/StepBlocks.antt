@@ -16,8 +16,8 @@ use Rattle.state.specs.Blocks.{over, words_of}
 use Rattle.state.specs.declared.Doing.{Doing}
 use Rattle.state.specs.declared.Held.{Held}
 use Rattle.state.specs.declared.Held.TheVariants.{Nothing, Formatting, Task as HeldTask}
-use Rattle.state.specs.declared.Answer.{Answer}
-use Rattle.state.specs.declared.Answer.TheVariants.{Stored, Ready, Absent, Value, Refused}
+use Rattle.state.specs.Answer.{Answer}
+use Rattle.state.specs.Answer.{Stored, Ready, Absent, Value, Refused}
 
 -- "or gives the final answer and makes the state idle": nothing is being done, made, planned or cut out; the rows stand
 unfoldable pub idled_block : List ℕ → List ℕ

@@ -8,8 +8,8 @@ use Rattle.state.specs.Memory.{Memory}
 use Rattle.state.specs.Steps.{Step}
 use Rattle.state.specs.Block.{depth_at, places_at, values_at, block_word, part, memory_in, doing_words}
 use Rattle.state.specs.Blocks.{over, words_of}
-use Rattle.state.specs.declared.Answer.{Answer}
-use Rattle.state.specs.declared.Answer.TheVariants.{Stored, Ready, Absent, Value, Refused}
+use Rattle.state.specs.Answer.{Answer}
+use Rattle.state.specs.Answer.{Stored, Ready, Absent, Value, Refused}
 use Rattle.call_step.specs.StepBlocks.{idled_block, settled_word, totalled, at_front}
 
 -- a store of the change in hand, which leaves this state: word 6 counts it; after the last one word 5 says that a first change is

@@ -4,7 +4,7 @@ ghost use Rattle.card.specs.Layout.{greatest_nodes};
 ghost use Rattle.card.specs.Header.{Sized};
 ghost use Rattle.state.specs.Block.{state_words, block_word, memory_in};
 ghost use Rattle.state.specs.Steps.{formatted_word, format_store, step_format};
-ghost use Rattle.state.specs.declared.Answer.TheVariants.{Stored};
+ghost use Rattle.state.specs.Answer.{Stored};
 ghost use Rattle.call_step.specs.Clauses.{StepMade};
 
 use crate::playing::finish;

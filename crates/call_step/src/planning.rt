@@ -13,7 +13,7 @@ ghost use Rattle.change_plan.specs.declared.Outcome.TheVariants.{Prepared};
 ghost use Rattle.state.specs.Steps.{is_idle, held_by};
 ghost use Rattle.state.specs.Results.{more_to_store};
 ghost use Rattle.state.specs.Block.{free_at, state_words, block_word, part, memory_in};
-ghost use Rattle.state.specs.declared.Answer.{Answer};
+ghost use Rattle.state.specs.Answer.{Answer};
 ghost use Rattle.state.specs.declared.Held.TheVariants.{Task as HeldTask};
 ghost use Rattle.call_step.specs.Calls.{step_prepared, step_task, step_held};
 ghost use Rattle.call_step.specs.StepBlocks.{planned_over};

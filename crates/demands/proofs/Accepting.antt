@@ -36,8 +36,8 @@ use Rattle.demands.proofs.AnswerNumbers.{SmallBegun, open_small}
 use Rattle.demands.proofs.ReplyLaws.{code_of}
 use Rattle.demands.specs.Events.{Opens}
 use Rattle.demands.specs.RationTable.{ration_table}
-use Rattle.state.specs.declared.Begun.{Begun}
-use Rattle.state.specs.declared.Begun.TheVariants.{Idle as OpenedIdle, Started, Refused as BegunRefused}
+use Rattle.state.specs.Begun.{Begun}
+use Rattle.state.specs.Begun.{Idle as OpenedIdle, Started, Refused as BegunRefused}
 use Rattle.demands.proofs.Reopen.{table_depth_limited, card_accepted, facts_exact}
 use Rattle.card_check.specs.Check.{Findings, table_check}
 use Rattle.card_check.specs.Counting.{table_counted}

@@ -28,8 +28,8 @@ use Rattle.card_check.specs.Counting.{table_counted}
 use Rattle.call_start.specs.Starts.{start_refused, start_accepted, start_depth, start_landed, start_checked, start_of}
 use Rattle.state.specs.Memory.{Memory, advanced}
 use Rattle.state.specs.Steps.{held_by, Step, is_idle, no_beginning, step_refused, step_final, step_format, step_store}
-use Rattle.state.specs.declared.Begun.{Begun}
-use Rattle.state.specs.declared.Begun.TheVariants.{Idle as OpenedIdle, Started, Refused as BegunRefused}
+use Rattle.state.specs.Begun.{Begun}
+use Rattle.state.specs.Begun.{Idle as OpenedIdle, Started, Refused as BegunRefused}
 use Rattle.state.specs.declared.Doing.{Doing}
 use Rattle.call_change.specs.Updates.{landing}
 use Rattle.call_step.specs.Calls.{step_prepared, step_begin, step_task, placed_on, on_card, step_checked, step_held, step_of}
@@ -37,8 +37,8 @@ use Rattle.call_step.proofs.StepMemory.{Ends, next_ends}
 use Rattle.change_plan.specs.Planning.{Preparation, refused, balanced, prepared}
 use Rattle.card.specs.Stores.{Store}
 use Rattle.state.proofs.Tasks.{task_of}
-use Rattle.state.specs.declared.Answer.{Answer}
-use Rattle.state.specs.declared.Answer.TheVariants.{Stored, Ready, Absent, Value, Refused}
+use Rattle.state.specs.Answer.{Answer}
+use Rattle.state.specs.Answer.{Stored, Ready, Absent, Value, Refused}
 use Rattle.state.specs.declared.Held.{Held}
 use Rattle.state.specs.declared.Held.TheVariants.{Nothing, Formatting, Task as HeldTask}
 use Rattle.state.specs.declared.Task.{Task}

@@ -21,7 +21,7 @@ use Rattle.call_change.specs.Updates.{landing, empty_reason, reason_in, insert_r
 use Rattle.state.specs.declared.Doing.TheVariants.{Inserting, Deleting}
 use Rattle.state.specs.declared.Phase.TheVariants.{NotBegun, InHand}
 use Rattle.state.specs.declared.Task.TheVariants.{PutIn, TakeOut}
-use Rattle.state.specs.declared.Answer.TheVariants.{Absent, Value}
+use Rattle.state.specs.Answer.{Absent, Value}
 use Rattle.walk.specs.declared.Slot.TheVariants.{At, Absent as NoSlot}
 use Rattle.walk.specs.declared.Landing.TheVariants.{Leaf as LandingAt}
 

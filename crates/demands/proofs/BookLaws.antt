@@ -15,8 +15,8 @@ use Rattle.card.specs.Layout.{key_limit}
 use Rattle.laws.specs.Totals.{total}
 use Rattle.demands.specs.Book.{Update, added, taken_out, entered, outcome, final, put, remove}
 use Rattle.state.specs.Answers.{step_reply}
-use Rattle.state.specs.declared.Answer.{Answer}
-use Rattle.state.specs.declared.Answer.TheVariants.{Stored, Ready, Absent, Value, Refused}
+use Rattle.state.specs.Answer.{Answer}
+use Rattle.state.specs.Answer.{Stored, Ready, Absent, Value, Refused}
 use Rattle.theory_tree.specs.Pairs.{lookup, has_key}
 use Rattle.theory_tree.proofs.Pairs.{lookup_none}
 

@@ -28,7 +28,7 @@ use Rattle.theory_tree.specs.Violations.{table_violations}
 use Rattle.state.specs.Memory.{Memory}
 use Rattle.state.specs.Answers.{start_reply}
 use Rattle.state.specs.Steps.{Handed, is_idle}
-use Rattle.state.specs.declared.Answer.TheVariants.{Absent}
+use Rattle.state.specs.Answer.{Absent}
 use Rattle.state.specs.declared.Doing.{Doing}
 use Rattle.state.specs.declared.Doing.TheVariants.{Idle, Inserting, Deleting}
 use Rattle.state.specs.declared.Phase.TheVariants.{NotBegun}

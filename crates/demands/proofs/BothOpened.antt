@@ -33,7 +33,7 @@ use Rattle.theory_tree.specs.Tree.{Tree, node_total}
 use Rattle.theory_tree.specs.Violations.{table_violations}
 use Rattle.theory_tree.specs.WellFormed.{WellFormed}
 use Rattle.state.specs.Memory.{Memory, resting}
-use Rattle.state.specs.declared.Answer.TheVariants.{Ready}
+use Rattle.state.specs.Answer.{Ready}
 use Rattle.state.specs.declared.Doing.TheVariants.{Idle, Repairing}
 use Rattle.call_step.specs.Calls.{repair_steps}
 use Rattle.demands.specs.Book.{Book, book, empty}

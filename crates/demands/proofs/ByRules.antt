@@ -18,8 +18,8 @@ use Rattle.demands.proofs.Making.{Nears, nearer, store_at, Left, run_left, store
 use Rattle.change_plan.specs.Planning.{Preparation, last_of, with_all, refused, balanced, prepared}
 use Rattle.state.specs.Answers.{step_reply}
 use Rattle.state.specs.Memory.{Memory, settled as settledDoing, advanced}
-use Rattle.state.specs.declared.Answer.{Answer}
-use Rattle.state.specs.declared.Answer.TheVariants.{Stored}
+use Rattle.state.specs.Answer.{Answer}
+use Rattle.state.specs.Answer.{Stored}
 use Rattle.state.specs.declared.Doing.{Doing}
 use Rattle.state.specs.declared.Doing.TheVariants.{Idle, Inserting, Deleting}
 use Rattle.state.specs.declared.Phase.{Phase}

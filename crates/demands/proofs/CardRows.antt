@@ -42,7 +42,7 @@ use Rattle.call_start.specs.Starts.{format_of}
 use Rattle.state.specs.Answers.{start_reply}
 use Rattle.state.specs.Memory.{no_memory, resting}
 use Rattle.state.specs.Steps.{no_beginning}
-use Rattle.state.specs.declared.Begun.TheVariants.{Started}
+use Rattle.state.specs.Begun.{Started}
 use Rattle.theory_tree.specs.Tree.{Tree}
 use Rattle.theory_tree.specs.WellFormed.{WellFormed}
 

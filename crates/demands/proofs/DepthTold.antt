@@ -36,8 +36,8 @@ use Rattle.walk_next.specs.declared.Successor.TheVariants.{Pair, Nothing as NoNe
 use Rattle.state.specs.Answers.{step_reply, told_depth, start_reply}
 use Rattle.state.specs.Memory.{Memory, idled, advanced}
 use Rattle.state.specs.Steps.{held_by, Step, Handed, step_refused, step_final, step_format, step_store, formatting_from}
-use Rattle.state.specs.declared.Answer.{Answer}
-use Rattle.state.specs.declared.Answer.TheVariants.{Stored, Ready, Absent, Value, Refused}
+use Rattle.state.specs.Answer.{Answer}
+use Rattle.state.specs.Answer.{Stored, Ready, Absent, Value, Refused}
 use Rattle.state.specs.declared.Doing.{Doing}
 use Rattle.state.specs.declared.Doing.TheVariants.{Inserting, Deleting}
 use Rattle.state.specs.declared.Phase.TheVariants.{NotBegun}

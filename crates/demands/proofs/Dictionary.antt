@@ -43,8 +43,8 @@ use Rattle.demands.proofs.Starting.{nodes_same, lands, same_lookup}
 use Rattle.call_start.specs.Starts.{insert_of, delete_of, room_of}
 use Rattle.state.specs.Answers.{step_reply, start_reply}
 use Rattle.state.specs.Steps.{is_idle, held_by, Step, step_refused}
-use Rattle.state.specs.declared.Answer.{Answer}
-use Rattle.state.specs.declared.Answer.TheVariants.{Stored, Ready, Absent, Value, Refused}
+use Rattle.state.specs.Answer.{Answer}
+use Rattle.state.specs.Answer.{Stored, Ready, Absent, Value, Refused}
 use Rattle.state.specs.declared.Doing.{Doing}
 use Rattle.state.specs.declared.Doing.TheVariants.{Idle, Inserting, Deleting}
 use Rattle.state.specs.declared.Phase.TheVariants.{NotBegun}

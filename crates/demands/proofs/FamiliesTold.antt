@@ -22,8 +22,8 @@ use Rattle.call_step.specs.Calls.{step_checked, step_held, step_of}
 use Rattle.state.specs.Answers.{total_of, total_reply, start_reply}
 use Rattle.state.specs.Memory.{Memory, resting, no_memory, idled}
 use Rattle.state.specs.Steps.{held_by, no_beginning, step_refused, step_final, format_store, formatting_from, step_format}
-use Rattle.state.specs.declared.Begun.{Begun}
-use Rattle.state.specs.declared.Begun.TheVariants.{Idle as OpenedIdle, Started, Refused as BegunRefused}
+use Rattle.state.specs.Begun.{Begun}
+use Rattle.state.specs.Begun.{Idle as OpenedIdle, Started, Refused as BegunRefused}
 use Rattle.state.specs.declared.Held.{Held}
 use Rattle.state.specs.declared.Doing.TheVariants.{Idle, Formatting}
 use Rattle.theory_shapes.proofs.Unique.{one_held}

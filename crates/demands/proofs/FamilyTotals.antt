@@ -8,7 +8,7 @@ use native.Mathlib.Omega.{arith}
 use lib.ListN.{length}
 use Rattle.card_family.proofs.FamilyLaws.{Totals, totals_in, totals_out}
 use Rattle.state.specs.Memory.{settled_in, settled_out, settled_totals}
-use Rattle.state.specs.declared.Answer.{Answer}
+use Rattle.state.specs.Answer.{Answer}
 use Rattle.state.specs.declared.Doing.{Doing}
 use Rattle.state.specs.declared.Phase.TheVariants.{InHand, Decided}
 use Rattle.state.proofs.Tasks.{in_hand_lem, decided}

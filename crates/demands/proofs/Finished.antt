@@ -12,8 +12,8 @@ use Rattle.state.specs.Answers.{step_reply}
 use Rattle.state.specs.Steps.{is_idle}
 use Rattle.call_step.specs.Calls.{step_of}
 use Rattle.state.specs.declared.Doing.TheVariants.{Idle}
-use Rattle.state.specs.declared.Answer.{Answer}
-use Rattle.state.specs.declared.Answer.TheVariants.{Stored, Refused}
+use Rattle.state.specs.Answer.{Answer}
+use Rattle.state.specs.Answer.{Stored, Refused}
 use Rattle.demands.proofs.BookLaws.{IsFinal}
 use Rattle.demands.proofs.Finishing.{Rests}
 use Rattle.demands.proofs.Invariant.{Inv}

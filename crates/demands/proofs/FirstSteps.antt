@@ -48,8 +48,8 @@ use Rattle.state.specs.Steps.{Step, step_refused}
 use Rattle.state.specs.declared.Doing.{Doing}
 use Rattle.state.specs.declared.Doing.TheVariants.{Inserting, Deleting, Repairing}
 use Rattle.state.specs.declared.Phase.TheVariants.{NotBegun, InHand, Decided}
-use Rattle.state.specs.declared.Answer.{Answer}
-use Rattle.state.specs.declared.Answer.TheVariants.{Ready, Absent, Value}
+use Rattle.state.specs.Answer.{Answer}
+use Rattle.state.specs.Answer.{Ready, Absent, Value}
 use Rattle.state.specs.declared.Task.{Task}
 use Rattle.state.specs.declared.Task.TheVariants.{PutIn, TakeOut, Repair}
 use Rattle.state.proofs.Tasks.{in_hand_lem, decided, TaskOf, putting, taking, put, taken, opened, task_of}

@@ -53,8 +53,8 @@ use Rattle.call_start.specs.Starts.{start_refused, insert_of}
 use Rattle.state.specs.Answers.{start_reply}
 use Rattle.state.specs.Memory.{Memory}
 use Rattle.state.specs.Steps.{Handed}
-use Rattle.state.specs.declared.Begun.{Begun}
-use Rattle.state.specs.declared.Begun.TheVariants.{Refused as BegunRefused}
+use Rattle.state.specs.Begun.{Begun}
+use Rattle.state.specs.Begun.{Refused as BegunRefused}
 use Rattle.text_row.specs.Lines.{refusal_line}
 use Rattle.theory_tree.specs.Pairs.{pairs, lookup}
 use Rattle.theory_tree.specs.Tree.{Tree}

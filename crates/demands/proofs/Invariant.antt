@@ -26,8 +26,8 @@ use Rattle.state.specs.declared.Doing.TheVariants.{Idle, Inserting, Deleting, Re
 use Rattle.state.specs.declared.Phase.{Phase}
 use Rattle.state.specs.declared.Phase.TheVariants.{NotBegun, InHand, Decided}
 use Rattle.state.proofs.Tasks.{Underway}
-use Rattle.state.specs.declared.Answer.{Answer}
-use Rattle.state.specs.declared.Answer.TheVariants.{Ready, Absent, Value}
+use Rattle.state.specs.Answer.{Answer}
+use Rattle.state.specs.Answer.{Ready, Absent, Value}
 use Rattle.demands.proofs.Shapes.{after_shape}
 use Rattle.theory_shapes.proofs.Bare.{bare}
 use Rattle.theory_shapes.proofs.Whole.{Heads}

@@ -23,7 +23,7 @@ use Rattle.demands.proofs.Steps.{memory, job_settled}
 use Rattle.state.specs.Memory.{advanced}
 use Rattle.state.specs.declared.Doing.{Doing}
 use Rattle.state.specs.declared.Phase.TheVariants.{InHand, Decided}
-use Rattle.state.specs.declared.Answer.{Answer}
+use Rattle.state.specs.Answer.{Answer}
 use Rattle.theory_shapes.proofs.Bare.{bare}
 use Rattle.theory_shapes.proofs.Whole.{Heads}
 use Rattle.theory_tree.proofs.Cut.{cut}

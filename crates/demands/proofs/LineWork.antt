@@ -22,8 +22,8 @@ use Rattle.theory_tree.specs.Represent.{Holds}
 use Rattle.theory_tree.specs.Tree.{Tree, node_total}
 use Rattle.state.specs.Memory.{Memory}
 use Rattle.state.specs.Steps.{Handed, Step, is_idle, held_by, step_refused}
-use Rattle.state.specs.declared.Answer.{Answer}
-use Rattle.state.specs.declared.Answer.TheVariants.{Stored, Ready, Absent, Value, Refused}
+use Rattle.state.specs.Answer.{Answer}
+use Rattle.state.specs.Answer.{Stored, Ready, Absent, Value, Refused}
 use Rattle.state.specs.declared.Doing.{Doing}
 use Rattle.state.specs.declared.Doing.TheVariants.{Idle}
 use Rattle.walk.specs.Descent.{way, leaf_of, depth_of}

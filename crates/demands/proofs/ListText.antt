@@ -30,8 +30,8 @@ use Rattle.call_repair.specs.Repairing.{card_room}
 use Rattle.card_check.specs.Check.{Findings, table_check}
 use Rattle.card_check.specs.Counting.{table_counted}
 use Rattle.state.specs.Steps.{no_beginning}
-use Rattle.state.specs.declared.Begun.{Begun}
-use Rattle.state.specs.declared.Begun.TheVariants.{Idle, Started, Refused}
+use Rattle.state.specs.Begun.{Begun}
+use Rattle.state.specs.Begun.{Idle, Started, Refused}
 use Rattle.card.specs.Layout.{search_start}
 use Rattle.call_open.specs.Opening.{open_sound, open_checked, open_of}
 

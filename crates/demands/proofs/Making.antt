@@ -22,8 +22,8 @@ use Rattle.demands.proofs.Steps.{job_busy, step_stores, idle_refused}
 use Rattle.state.specs.Answers.{step_reply}
 use Rattle.state.specs.Memory.{Memory, advanced}
 use Rattle.state.specs.Steps.{step_refused}
-use Rattle.state.specs.declared.Answer.{Answer}
-use Rattle.state.specs.declared.Answer.TheVariants.{Stored, Refused as WasRefused}
+use Rattle.state.specs.Answer.{Answer}
+use Rattle.state.specs.Answer.{Stored, Refused as WasRefused}
 use Rattle.state.specs.declared.Doing.TheVariants.{Idle}
 use Rattle.call_step.specs.Calls.{step_of}
 use Rattle.theory_tree.specs.Tree.{Tree}

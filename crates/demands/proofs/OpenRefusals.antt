@@ -28,8 +28,8 @@ use Rattle.theory_check.proofs.Soundness.{accepts_sound, sound_accepted}
 use Rattle.state.specs.Answers.{start_reply}
 use Rattle.state.specs.Steps.{no_beginning}
 use Rattle.call_open.specs.Opening.{open_sound, open_checked, open_of}
-use Rattle.state.specs.declared.Begun.{Begun}
-use Rattle.state.specs.declared.Begun.TheVariants.{Idle as OpenedIdle, Started, Refused as BegunRefused}
+use Rattle.state.specs.Begun.{Begun}
+use Rattle.state.specs.Begun.{Idle as OpenedIdle, Started, Refused as BegunRefused}
 use Rattle.theory_tree.specs.Tree.{Tree, roots, leaf, node}
 use Rattle.theory_tree.specs.Violations.{RootOk, table_violations}
 use Rattle.theory_tree.specs.WellFormed.{WellFormed}

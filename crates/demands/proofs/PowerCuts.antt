@@ -34,7 +34,7 @@ use Rattle.demands.proofs.Steps.{idle_world}
 use Rattle.demands.proofs.Stepping.{Moves, kept_step, was_idle, ends_now, goes_further}
 use Rattle.state.specs.Answers.{step_reply, start_reply}
 use Rattle.state.specs.Steps.{is_idle}
-use Rattle.state.specs.declared.Begun.TheVariants.{Idle as OpenedIdle, Started}
+use Rattle.state.specs.Begun.{Idle as OpenedIdle, Started}
 use Rattle.state.specs.declared.Doing.TheVariants.{Idle}
 use Rattle.call_step.specs.Calls.{step_of, repair_steps}
 

@@ -20,9 +20,9 @@ use Rattle.call_change.specs.Updates.{landing, start_room}
 use Rattle.state.specs.declared.Doing.{Doing}
 use Rattle.state.specs.declared.Doing.TheVariants.{Idle, Inserting, Deleting}
 use Rattle.state.specs.declared.Phase.TheVariants.{NotBegun}
-use Rattle.state.specs.declared.Answer.{Answer}
-use Rattle.state.specs.declared.Answer.TheVariants.{Ready}
-use Rattle.state.specs.declared.Begun.TheVariants.{Refused as BegunRefused}
+use Rattle.state.specs.Answer.{Answer}
+use Rattle.state.specs.Answer.{Ready}
+use Rattle.state.specs.Begun.{Refused as BegunRefused}
 use Rattle.card.specs.Header.{nodes_of_length, header_refusal, Sized}
 use Rattle.card.proofs.HeaderLaws.{nodes_sized}
 use Rattle.theory_change.proofs.Plays.{Openable}

@@ -22,7 +22,7 @@ use Rattle.demands.specs.RationTable.{ration_table}
 use Rattle.reason_text.specs.ReasonText.{no_key_word, split_line, reason_text, check_text}
 use Rattle.call_repair.specs.Repairing.{card_room, opened_card}
 use Rattle.call_start.specs.Starts.{start_refused, insert_of}
-use Rattle.state.specs.declared.Begun.TheVariants.{Refused as BegunRefused}
+use Rattle.state.specs.Begun.{Refused as BegunRefused}
 use Rattle.text_row.specs.Lines.{line_feed, refusal_line}
 use Rattle.theory_tree.specs.Tree.{Tree}
 use Rattle.theory_tree.specs.WellFormed.{WellFormed}

@@ -36,7 +36,7 @@ use Rattle.demands.proofs.RepairedCard.{After, steps, all_words, world_from, ope
 use Rattle.theory_check.proofs.Depth.{well_formed_depth}
 use Rattle.theory_check.proofs.Ranges.{root_in_range}
 use Rattle.state.specs.Steps.{Handed}
-use Rattle.state.specs.declared.Begun.TheVariants.{Started}
+use Rattle.state.specs.Begun.{Started}
 use Rattle.state.specs.declared.Doing.TheVariants.{Idle}
 use Rattle.call_step.specs.Calls.{repair_steps}
 use Rattle.theory_tree.specs.Pairs.{pairs, lookup}

@@ -33,8 +33,8 @@ use Rattle.call_open.specs.Opening.{open_sound, open_checked, open_of}
 use Rattle.state.specs.Memory.{Memory, resting}
 use Rattle.state.specs.declared.Doing.{Doing}
 use Rattle.state.specs.declared.Doing.TheVariants.{Idle, Repairing}
-use Rattle.state.specs.declared.Answer.TheVariants.{Ready}
-use Rattle.state.specs.declared.Begun.TheVariants.{Idle as OpenedIdle, Started}
+use Rattle.state.specs.Answer.{Ready}
+use Rattle.state.specs.Begun.{Idle as OpenedIdle, Started}
 use Rattle.theory_tree.proofs.Pairs.{depth}
 use Rattle.theory_tree.proofs.Path.{depth_of, reserve, Violation}
 use Rattle.theory_tree.specs.Tree.{Tree}

@@ -8,8 +8,8 @@ use Rattle.call_find.specs.Answers.{found_reply}
 use Rattle.call_find.specs.declared.Found.{Found}
 use Rattle.call_find.specs.declared.Found.TheVariants.{Value, Absent as NotHeld, Refused as NoLook}
 use Rattle.state.specs.Answers.{start_reply}
-use Rattle.state.specs.declared.Begun.{Begun}
-use Rattle.state.specs.declared.Begun.TheVariants.{Idle, Started, Refused}
+use Rattle.state.specs.Begun.{Begun}
+use Rattle.state.specs.Begun.{Idle, Started, Refused}
 
 pub code_of : {r s : Reply} → r ≡ s → r.code ≡ s.code
 code_of e = ap (λ (x : Reply). x.code) e

@@ -10,7 +10,7 @@ use Rattle.call_start.specs.Starts.{start_depth, start_refused, start_accepted, 
 use Rattle.call_change.specs.Updates.{full, landing, insert_reason, split_need, start_room}
 use Rattle.state.specs.declared.Doing.TheVariants.{Idle, Inserting}
 use Rattle.state.specs.declared.Phase.TheVariants.{NotBegun}
-use Rattle.state.specs.declared.Begun.TheVariants.{Started}
+use Rattle.state.specs.Begun.{Started}
 use Rattle.card.specs.Layout.{lowest_key, key_limit, node_at}
 use Rattle.card_free.specs.NodeSet.{count_true}
 use Rattle.laws.specs.Cases.{pick}

@@ -9,7 +9,7 @@ use Rattle.call_start.specs.Starts.{start_accepted}
 use Rattle.state.specs.Memory.{Memory}
 use Rattle.call_change.specs.Updates.{Reason, held, slot, full, landing, insert_reason, split_need, room_for, start_room}
 use Rattle.state.specs.declared.Doing.{Doing}
-use Rattle.state.specs.declared.Begun.TheVariants.{Started}
+use Rattle.state.specs.Begun.{Started}
 use Rattle.walk.specs.declared.Landing.TheVariants.{Leaf as LandingAt}
 
 pub room_at : (c : List ℕ) (n key : ℕ) (room : ℕ) (leaf link j : ℕ) → landing c n key ≡ LandingAt leaf link j

@@ -26,7 +26,7 @@ use Rattle.state.specs.declared.Task.{Task}
 use Rattle.state.specs.declared.Task.TheVariants.{PutIn, TakeOut, Repair}
 use Rattle.state.specs.declared.Held.{Held}
 use Rattle.state.specs.declared.Held.TheVariants.{Nothing, Formatting, Task as HeldTask}
-use Rattle.state.specs.declared.Answer.{Answer}
+use Rattle.state.specs.Answer.{Answer}
 use Rattle.call_change.specs.Updates.{next_change}
 use Rattle.call_start.specs.Starts.{start_refused, start_accepted, start_landed, start_checked, start_of, insert_of, delete_of}
 use Rattle.call_step.specs.Calls.{planning, step_prepared, step_begin, step_task, step_checked, step_held, step_of}

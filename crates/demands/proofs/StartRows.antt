@@ -38,8 +38,8 @@ use Rattle.call_start.specs.Starts.{start_depth, start_refused, start_accepted, 
 use Rattle.state.specs.Answers.{start_reply}
 use Rattle.state.specs.Steps.{Handed}
 use Rattle.state.specs.Memory.{Memory}
-use Rattle.state.specs.declared.Begun.{Begun}
-use Rattle.state.specs.declared.Begun.TheVariants.{Started, Refused as BegunRefused}
+use Rattle.state.specs.Begun.{Begun}
+use Rattle.state.specs.Begun.{Started, Refused as BegunRefused}
 use Rattle.state.specs.Steps.{is_idle}
 use Rattle.state.specs.declared.Doing.{Doing}
 use Rattle.state.specs.declared.Doing.TheVariants.{Inserting, Deleting}

@@ -36,9 +36,9 @@ use Rattle.call_change.specs.Updates.{landing, start_room}
 use Rattle.state.specs.declared.Doing.{Doing}
 use Rattle.state.specs.declared.Doing.TheVariants.{Idle, Inserting, Deleting}
 use Rattle.state.specs.declared.Phase.TheVariants.{NotBegun}
-use Rattle.state.specs.declared.Answer.{Answer}
-use Rattle.state.specs.declared.Begun.{Begun}
-use Rattle.state.specs.declared.Begun.TheVariants.{Started, Refused as BegunRefused}
+use Rattle.state.specs.Answer.{Answer}
+use Rattle.state.specs.Begun.{Begun}
+use Rattle.state.specs.Begun.{Started, Refused as BegunRefused}
 use Rattle.theory_tree.proofs.Lookup.{key_once, lookup_same}
 use Rattle.theory_tree.specs.Pairs.{pairs, lookup}
 use Rattle.theory_tree.proofs.Path.{full_run}

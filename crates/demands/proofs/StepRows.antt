@@ -26,8 +26,8 @@ use Rattle.state.specs.Steps.{held_by, Step, step_refused, step_final, format_st
 use Rattle.state.specs.declared.Task.{Task}
 use Rattle.state.specs.declared.Held.TheVariants.{Nothing as NoneHeld, Task as HeldTask}
 use Rattle.state.proofs.Tasks.{TaskOf}
-use Rattle.state.specs.declared.Answer.{Answer}
-use Rattle.state.specs.declared.Answer.TheVariants.{Stored, Ready, Absent, Value, Refused}
+use Rattle.state.specs.Answer.{Answer}
+use Rattle.state.specs.Answer.{Stored, Ready, Absent, Value, Refused}
 use Rattle.state.specs.declared.Doing.{Doing}
 use Rattle.state.specs.declared.Doing.TheVariants.{Formatting, Inserting, Deleting}
 use Rattle.state.specs.declared.Phase.TheVariants.{NotBegun}

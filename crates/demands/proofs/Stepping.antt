@@ -62,8 +62,8 @@ use Rattle.state.specs.declared.Doing.{Doing}
 use Rattle.state.specs.declared.Doing.TheVariants.{Idle, Inserting, Deleting}
 use Rattle.state.specs.declared.Phase.TheVariants.{NotBegun, InHand, Decided}
 use Rattle.state.proofs.Tasks.{in_hand_lem}
-use Rattle.state.specs.declared.Answer.{Answer}
-use Rattle.state.specs.declared.Answer.TheVariants.{Stored, Absent, Value, Refused}
+use Rattle.state.specs.Answer.{Answer}
+use Rattle.state.specs.Answer.{Stored, Absent, Value, Refused}
 use Rattle.theory_tree.proofs.Cut.{cut}
 use Rattle.theory_tree.proofs.Lookup.{absent_counted}
 use Rattle.theory_tree.specs.Pairs.{pairs, lookup, has_key}

@@ -19,8 +19,8 @@ use Rattle.demands.specs.RationTable.{ration_table}
 use Rattle.call_start.specs.Starts.{insert_of, delete_of}
 use Rattle.state.specs.Answers.{step_reply}
 use Rattle.state.specs.Steps.{is_idle}
-use Rattle.state.specs.declared.Answer.{Answer}
-use Rattle.state.specs.declared.Begun.TheVariants.{Started}
+use Rattle.state.specs.Answer.{Answer}
+use Rattle.state.specs.Begun.{Started}
 use Rattle.state.specs.declared.Doing.TheVariants.{Idle}
 use Rattle.theory_tree.specs.Height.{Height}
 use Rattle.theory_tree.specs.Pairs.{lookup}

@@ -47,9 +47,9 @@ use Rattle.call_start.specs.Starts.{insert_of, delete_of, room_of}
 use Rattle.state.specs.Answers.{step_reply, start_reply}
 use Rattle.state.specs.Memory.{no_memory, resting}
 use Rattle.state.specs.Steps.{is_idle, Handed, no_beginning}
-use Rattle.state.specs.declared.Answer.{Answer}
-use Rattle.state.specs.declared.Answer.TheVariants.{Ready, Absent, Value}
-use Rattle.state.specs.declared.Begun.TheVariants.{Started}
+use Rattle.state.specs.Answer.{Answer}
+use Rattle.state.specs.Answer.{Ready, Absent, Value}
+use Rattle.state.specs.Begun.{Started}
 use Rattle.state.specs.declared.Doing.TheVariants.{Inserting, Deleting, Repairing}
 use Rattle.state.specs.declared.Phase.TheVariants.{NotBegun, InHand, Decided}
 use Rattle.call_step.specs.Calls.{repair_steps}

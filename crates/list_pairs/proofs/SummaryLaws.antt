@@ -13,8 +13,8 @@ use Rattle.card_check.specs.Check.{Findings, table_check}
 use Rattle.card_check.specs.Counting.{table_counted}
 use Rattle.card_family.specs.Families.{no_totals}
 use Rattle.call_open.specs.Opening.{open_of}
-use Rattle.state.specs.declared.Begun.{Begun}
-use Rattle.state.specs.declared.Begun.TheVariants.{Idle, Started, Refused}
+use Rattle.state.specs.Begun.{Begun}
+use Rattle.state.specs.Begun.{Idle, Started, Refused}
 use Rattle.call_repair.specs.Repairing.{opened_card}
 use Rattle.walk_next.specs.Successor.{walk_from}
 use Rattle.list_pairs.specs.Listing.{most_pairs, Listing, Listed, refused, listed, list_checked, list_table, list_begun, list_card, list_read, list_dump, laid, lay_pairs, lay_listed}

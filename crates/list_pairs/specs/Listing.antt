@@ -11,8 +11,8 @@ use Rattle.card_check.specs.Check.{Findings, table_check}
 use Rattle.card_check.specs.Counting.{table_counted}
 use Rattle.call_open.specs.Opening.{open_of}
 use Rattle.call_repair.specs.Repairing.{opened_card}
-use Rattle.state.specs.declared.Begun.{Begun}
-use Rattle.state.specs.declared.Begun.TheVariants.{Idle, Started, Refused}
+use Rattle.state.specs.Begun.{Begun}
+use Rattle.state.specs.Begun.{Idle, Started, Refused}
 use Rattle.walk_next.specs.Successor.{walk_from}
 use Rattle.card_dump.specs.Dump.{dump_words, read_answer}
 use Rattle.card_dump.specs.declared.Answer.{Answer}

@@ -9,8 +9,8 @@ use types.Run.{OneOf, miss}
 use borrow.Author.Tests.{ne_eqb, eq-eqb}
 use Rattle.card.specs.Header.{nodes_of_length}
 use Rattle.state.specs.contracts.Begun.{the_type}
-use Rattle.state.specs.declared.Begun.{Begun}
-use Rattle.state.specs.declared.Begun.TheVariants.{Idle, Started, Refused as BegunRefused}
+use Rattle.state.specs.Begun.{Begun}
+use Rattle.state.specs.Begun.{Idle, Started, Refused as BegunRefused}
 use Rattle.call_change.specs.Updates.{landing}
 use Rattle.call_open.specs.Opening.{open_of}
 use Rattle.call_repair.specs.Repairing.{opened_card}

@@ -7,8 +7,8 @@ use Rattle.card.specs.Layout.{node_at}
 use Rattle.card_free.specs.NodeSet.{count_true}
 use Rattle.walk.specs.declared.Landing.{Landing}
 use Rattle.walk.specs.declared.Landing.TheVariants.{Refused as NoLanding, Leaf as LandingAt}
-use Rattle.state.specs.declared.Begun.{Begun}
-use Rattle.state.specs.declared.Begun.TheVariants.{Idle, Started, Refused as BegunRefused}
+use Rattle.state.specs.Begun.{Begun}
+use Rattle.state.specs.Begun.{Idle, Started, Refused as BegunRefused}
 use Rattle.call_change.specs.Updates.{landing, insert_reason, split_need, held, slot, full, Reason as InLeaf}
 use Rattle.call_open.specs.Opening.{open_of}
 use Rattle.call_repair.specs.Repairing.{opened_card}

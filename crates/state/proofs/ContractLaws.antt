@@ -6,8 +6,8 @@ use Prim.Native.Nat.{ℕ}
 use Rattle.card.specs.Replies.{no_state}
 use Rattle.state.specs.Steps.{Handed}
 use Rattle.state.specs.declared.Doing.{Doing}
-use Rattle.state.specs.declared.Begun.{Begun}
-use Rattle.state.specs.declared.Begun.TheVariants.{Refused as BegunRefused}
+use Rattle.state.specs.Begun.{Begun}
+use Rattle.state.specs.Begun.{Refused as BegunRefused}
 use Rattle.state.specs.Block.{back_at, state_words}
 use Rattle.state.proofs.Blocks.{resting_same}
 use Rattle.state.specs.Clauses.{Opened, OpenCall, StartCall}

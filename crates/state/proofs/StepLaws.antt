@@ -18,7 +18,7 @@ use Rattle.laws.specs.Lists.{before_zero}
 use Rattle.state.specs.Steps.{step_refused, formatted_word, format_store, step_store}
 use Rattle.state.specs.Memory.{Memory, advanced}
 use Rattle.state.specs.Results.{more_to_store}
-use Rattle.state.specs.declared.Answer.TheVariants.{Stored}
+use Rattle.state.specs.Answer.{Stored}
 
 -- the stores of a plan, from one on
 zip_nil : (xs : List ℕ) → zip {A = ℕ} {B = ℕ} xs [] ≡ []

@@ -4,12 +4,12 @@ use Rattle.laws.specs.Cases.{pick}
 use Rattle.card.specs.Replies.{Reply, refusal, holds, absent, stored, ready, idle, started, totalled}
 use Rattle.card_family.specs.Families.{family_count}
 use Rattle.state.specs.Memory.{Memory}
-use Rattle.state.specs.declared.families.Total.{Total}
-use Rattle.state.specs.declared.families.Total.TheVariants.{Pairs, Refused as NoFamily}
-use Rattle.state.specs.declared.Answer.{Answer}
-use Rattle.state.specs.declared.Answer.TheVariants.{Stored, Ready, Absent, Value, Refused}
-use Rattle.state.specs.declared.Begun.{Begun}
-use Rattle.state.specs.declared.Begun.TheVariants.{Idle as OpenedIdle, Started, Refused as BegunRefused}
+use Rattle.state.specs.Total.{Total}
+use Rattle.state.specs.Total.{Pairs, Refused as NoFamily}
+use Rattle.state.specs.Answer.{Answer}
+use Rattle.state.specs.Answer.{Stored, Ready, Absent, Value, Refused}
+use Rattle.state.specs.Begun.{Begun}
+use Rattle.state.specs.Begun.{Idle as OpenedIdle, Started, Refused as BegunRefused}
 
 -- what a step answers
 unfoldable pub step_reply : Answer → Reply

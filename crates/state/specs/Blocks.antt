@@ -4,8 +4,8 @@ use Rattle.laws.specs.Bits.{bit}
 use Rattle.card_free.specs.NodeSet.{word_count}
 use Rattle.state.specs.Memory.{Memory}
 use Rattle.state.specs.declared.Doing.{Doing}
-use Rattle.state.specs.declared.Begun.{Begun}
-use Rattle.state.specs.declared.Begun.TheVariants.{Idle as OpenedIdle, Started, Refused}
+use Rattle.state.specs.Begun.{Begun}
+use Rattle.state.specs.Begun.{Idle as OpenedIdle, Started, Refused}
 use Rattle.state.specs.Block.{depth_at, back_at, rest_words, doing_words}
 
 -- a block with other words from word `from` on

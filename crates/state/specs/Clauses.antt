@@ -6,10 +6,10 @@ use Rattle.std.specs.Prelude.{◌≡◌, List, ℕ, length}
 use Rattle.card.specs.Replies.{no_state}
 use Rattle.state.specs.Steps.{Handed}
 use Rattle.state.specs.declared.Doing.{Doing}
-use Rattle.state.specs.declared.Begun.{Begun}
-use Rattle.state.specs.declared.Begun.TheVariants.{Refused as BegunRefused}
-use Rattle.state.specs.declared.families.Total.{Total}
-use Rattle.state.specs.declared.families.Total.TheVariants.{Refused as NoTotal}
+use Rattle.state.specs.Begun.{Begun}
+use Rattle.state.specs.Begun.{Refused as BegunRefused}
+use Rattle.state.specs.Total.{Total}
+use Rattle.state.specs.Total.{Refused as NoTotal}
 use Rattle.state.specs.Answers.{total_of}
 use Rattle.state.specs.Block.{state_words, memory_in}
 use Rattle.state.specs.Blocks.{resting_block, started_block}

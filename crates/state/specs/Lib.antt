@@ -1,5 +1,11 @@
 -- the state, as a reader sees it
 pub mod Memory
+-- what a step answers, by the papers' numbers
+pub mod Answer
+-- what opening and starting answer
+pub mod Begun
+-- what the question for a family's total answers
+pub mod Total
 -- a store of formatting and of the change in hand, and what a step and a start hand back
 pub mod Steps
 -- what the answers in code say, in the terms of Steps

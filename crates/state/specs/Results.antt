@@ -1,8 +1,8 @@
 -- What the answers in code say, in the terms of Steps. These are definitions.
 use Rattle.std.specs.Prelude.{◌≡◌, List, [], ◌∷◌, Bool, true, false, ℕ}
 use Rattle.card.specs.Stores.{Store}
-use Rattle.state.specs.declared.Answer.{Answer}
-use Rattle.state.specs.declared.Answer.TheVariants.{Refused}
+use Rattle.state.specs.Answer.{Answer}
+use Rattle.state.specs.Answer.{Refused}
 
 -- an answer that is no refusal
 abbrev pub Final : Answer → Type 0

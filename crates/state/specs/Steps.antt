@@ -8,13 +8,14 @@ use Rattle.state.specs.Memory.{Memory, no_memory, idled}
 use Rattle.state.specs.declared.Doing.{Doing}
 use Rattle.state.specs.declared.Doing.TheVariants.{Idle, Formatting, Inserting, Deleting, Repairing}
 use Rattle.state.specs.declared.Phase.TheVariants.{NotBegun, InHand, Decided}
-use Rattle.state.specs.declared.Answer.{Answer}
-use Rattle.state.specs.declared.Answer.TheVariants.{Stored, Ready, Absent, Value, Refused}
+use Rattle.state.specs.Answer.{Answer}
+use Rattle.state.specs.Answer.{Stored, Ready, Refused}
+use Rattle.state.specs.declared.Answer.TheVariants.{Ready as AnswerReady, Absent as AnswerAbsent, Value as AnswerValue}
 use Rattle.state.specs.declared.Task.TheVariants.{PutIn, TakeOut, Repair}
 use Rattle.state.specs.declared.Held.{Held}
 use Rattle.state.specs.declared.Held.TheVariants.{Nothing, Formatting as HeldFormatting, Task as HeldTask}
-use Rattle.state.specs.declared.Begun.{Begun}
-use Rattle.state.specs.declared.Begun.TheVariants.{Refused as BegunRefused}
+use Rattle.state.specs.Begun.{Begun}
+use Rattle.state.specs.Begun.{Refused as BegunRefused}
 
 unfoldable pub is_idle : Doing → Bool
 is_idle Idle = true
@@ -29,12 +30,12 @@ unfoldable pub held_by : Doing → Held
 held_by Idle = Nothing
 held_by (Formatting made) = HeldFormatting made
 held_by (Inserting key value NotBegun) = HeldTask (PutIn key value)
-held_by (Inserting key value InHand) = HeldTask (Repair key Absent)
-held_by (Inserting key value Decided) = HeldTask (Repair key Absent)
+held_by (Inserting key value InHand) = HeldTask (Repair key AnswerAbsent)
+held_by (Inserting key value Decided) = HeldTask (Repair key AnswerAbsent)
 held_by (Deleting key NotBegun value) = HeldTask (TakeOut key)
-held_by (Deleting key InHand value) = HeldTask (Repair key (Value value))
-held_by (Deleting key Decided value) = HeldTask (Repair key (Value value))
-held_by (Repairing key) = HeldTask (Repair key Ready)
+held_by (Deleting key InHand value) = HeldTask (Repair key (AnswerValue value))
+held_by (Deleting key Decided value) = HeldTask (Repair key (AnswerValue value))
+held_by (Repairing key) = HeldTask (Repair key AnswerReady)
 
 -- What opening and starting hand back: the answer and the state.
 pub record Handed : Type 0 where

@@ -8,8 +8,11 @@ ghost use Rattle.state.specs.Steps.{is_idle, no_beginning};
 ghost use Rattle.state.specs.Block.{free_at, totals_at, state_words, part, phase_in, phase_word, doing_in, head_in, memory_in, doing_words, head_words};
 ghost use Rattle.state.specs.Blocks.{over, begun_block, resting_block};
 ghost use Rattle.state.specs.Clauses.{Opened};
+ghost use Rattle.state.specs.Begun.{told};
+ghost use Rattle.card.specs.Refusals.{number};
 
 use crate::{Begun, Doing, Phase, State};
+use card::Refusal;
 
 // The words of a block: N and the node given last; what is being done by its number, and its three numbers; the stores of the
 // plan made and planned; the nodes that the last store cuts out; the free nodes; the plan's places and values; of the update begun
@@ -56,9 +59,6 @@ pub const REST_TOTALS: usize = LINES + 4;
 
 // How many words that makes.
 pub const STATE_WORDS: usize = REST_TOTALS + card_family::FAMILIES;
-
-// What a call answers where a block of another length is lent, which is no state. Document 01 has no number for it.
-pub const NO_STATE: u32 = 71;
 
 // The numbers of what is being done; any other number is idle.
 pub const IDLE: u32 = 0;
@@ -264,10 +264,10 @@ pub fn store_resting(block: &mut [u32], n: usize, last: u32, doing: Doing)
 }
 
 // "Opening or starting to format, refused, hands back an idle state for N = 0".
-pub fn refuse_beginning(block: &mut [u32], refusal: u32) -> Begun
+pub fn refuse_beginning(block: &mut [u32], refusal: Refusal) -> Result<Begun, Refusal>
     requires { length block.old ≡ state_words }
-    ensures { Opened block.old block.new result (no_beginning refusal) }
+    ensures { Opened block.old block.new (told result) (no_beginning (number refusal)) }
 {
     clear_words(&mut block[0..BACK]);
-    Begun::Refused(refusal)
+    Err(refusal)
 }

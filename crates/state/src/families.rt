@@ -1,25 +1,21 @@
 // The question for a family's total (document 02, W-204).
 ghost use Rattle.state.specs.Clauses.{TotalCall};
+ghost use Rattle.state.specs.Total.{told};
 
-use crate::block::{NO_STATE, STATE_WORDS, TOTALS, wide};
+use crate::block::{STATE_WORDS, TOTALS};
+use card::Refusal;
 use card_family::FAMILIES;
 
-// How many pairs a family has, or a refusal.
-#[derive(Clone, Copy)]
-pub enum Total {
-    Pairs(u32),
-    Refused(u32),
-}
-
 // "One question answers a family's total"; "13: family above 15; that question checks nothing else." A block that is no state has none.
-pub fn family_total(state: &[u32], family: u32) -> Total
-    ensures { TotalCall state.now family result }
+pub fn family_total(state: &[u32], family: u32) -> Result<u32, Refusal>
+    ensures { TotalCall state.now family (told result) }
 {
     if state.len() != STATE_WORDS {
-        return Total::Refused(NO_STATE);
+        return Err(Refusal::NoState);
     }
-    if FAMILIES <= wide(family) {
-        return Total::Refused(13);
+    let family = family as usize;
+    if FAMILIES <= family {
+        return Err(Refusal::WrongFamily);
     }
-    Total::Pairs(state[TOTALS + wide(family)])
+    Ok(state[TOTALS + family])
 }

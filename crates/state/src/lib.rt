@@ -6,7 +6,7 @@ pub mod block;
 mod families;
 mod holding;
 
-pub use families::{Total, family_total};
+pub use families::family_total;
 pub use holding::held_by;
 
 // How far an insert or a delete is: its first change is not begun; it is in hand; it is made, which decides the call, so that
@@ -61,20 +61,18 @@ pub struct State {
     pub cut: [u32; 3],
 }
 
-// What a step answers: a word was stored, in this place, or the final answer of what was being done, or a refusal.
-#[derive(Clone, Copy)]
+// What a step answers that is not refused: a word was stored, in this place, or the final answer of what was being done.
+#[derive(Clone, Copy, Debug, PartialEq, Eq)]
 pub enum Answer {
     Stored(u32),
     Ready,
     Absent,
     Value(u32),
-    Refused(u32),
 }
 
-// What opening and starting to format answer.
-#[derive(Clone, Copy)]
+// What opening and starting answer that are not refused.
+#[derive(Clone, Copy, Debug, PartialEq, Eq)]
 pub enum Begun {
     Idle,
     Started,
-    Refused(u32),
 }

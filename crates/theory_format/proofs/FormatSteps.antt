@@ -21,8 +21,8 @@ use Rattle.call_start.specs.Starts.{format_of}
 use Rattle.call_step.specs.Calls.{step_held, step_of}
 use Rattle.state.specs.Memory.{Memory, resting, idled}
 use Rattle.state.specs.declared.Doing.TheVariants.{Idle, Formatting}
-use Rattle.state.specs.declared.Answer.TheVariants.{Stored, Ready}
-use Rattle.state.specs.declared.Begun.TheVariants.{Started}
+use Rattle.state.specs.Answer.{Stored, Ready}
+use Rattle.state.specs.Begun.{Started}
 use Rattle.state.proofs.StepLaws.{format_end}
 
 -- "those not reached from the root", which is node 1

@@ -40,9 +40,9 @@ use Rattle.theory_shapes.proofs.Need.{leaf_need, need_of, need_leaf}
 use Rattle.call_start.specs.Starts.{insert_of, delete_of, start_accepted, start_depth, start_refused, room_of}
 use Rattle.call_start.proofs.StartLaws.{started_no_refusal}
 use Rattle.state.specs.Steps.{Handed, is_idle}
-use Rattle.state.specs.declared.Answer.{Answer}
-use Rattle.state.specs.declared.Begun.{Begun}
-use Rattle.state.specs.declared.Begun.TheVariants.{Started, Refused as BegunRefused}
+use Rattle.state.specs.Answer.{Answer}
+use Rattle.state.specs.Begun.{Begun}
+use Rattle.state.specs.Begun.{Started, Refused as BegunRefused}
 use Rattle.state.specs.declared.Doing.TheVariants.{Idle, Inserting, Deleting}
 use Rattle.state.specs.declared.Phase.TheVariants.{NotBegun}
 use Rattle.call_step.specs.Calls.{step_of}

@@ -13,7 +13,7 @@ use Rattle.demands.proofs.Shapes.{first_shape, after_shape}
 use Rattle.theory_shapes.proofs.Need.{leaf_need, need_of, need_in}
 use Rattle.theory_shapes.proofs.Next.{mend_leaves, mend_two, siblings_of, mend_at, apart, repaired_by, repaired_in, changed_by, changed_in, put_at, put_in, take_at, take_out}
 use Rattle.theory_shapes.proofs.Whole.{settled_by}
-use Rattle.state.specs.declared.Answer.TheVariants.{Absent}
+use Rattle.state.specs.Answer.{Absent}
 use Rattle.theory_tree.specs.Tree.{Tree, leaf, node, one, more}
 use Rattle.theory_tree.specs.Violations.{few}
 

@@ -18,8 +18,8 @@ use Rattle.card.specs.Header.{nodes_of_length}
 use Rattle.call_open.specs.Opening.{open_of}
 use Rattle.theory_shapes.proofs.Whole.{settled_by}
 use Rattle.state.specs.Steps.{is_idle}
-use Rattle.state.specs.declared.Answer.{Answer}
-use Rattle.state.specs.declared.Answer.TheVariants.{Ready}
+use Rattle.state.specs.Answer.{Answer}
+use Rattle.state.specs.Answer.{Ready}
 use Rattle.theory_tree.specs.WellFormed.{WellFormed}
 use lib.ListN.{length}
 use mathlib.Core.Bool.{false}

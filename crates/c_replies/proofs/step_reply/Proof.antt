@@ -10,7 +10,7 @@ use borrow.Author.Tests.{eq-eqb, ne_eqb}
 use Rattle.card.specs.Replies.{Reply, with_depth}
 use Rattle.state.specs.Answers.{step_reply, told_depth}
 use Rattle.state.specs.Block.{state_words, memory_in}
-use Rattle.state.specs.declared.Answer.{Answer}
+use Rattle.state.specs.Answer.{Answer}
 use Rattle.c_replies.specs.ReplyWords.{kept_depth}
 use Rattle.c_replies.proofs.step_reply.Statement.{statement}
 use Rattle.c_replies.proofs.step_reply.Tie as tie

@@ -7,7 +7,7 @@ use borrow.Author.Tests.{eq-eqb, ne_eqb}
 use Rattle.card_free.specs.NodeSet.{word_count, nodes_of}
 use Rattle.card_check.specs.Check.{findings_of}
 use Rattle.state.specs.Steps.{Handed}
-use Rattle.state.specs.declared.Begun.TheVariants.{Idle as OpenedIdle, Started}
+use Rattle.state.specs.Begun.{Idle as OpenedIdle, Started}
 use Rattle.state.specs.Block.{free_at, part}
 use Rattle.state.specs.Clauses.{Opened}
 use Rattle.call_open.proofs.OpeningLaws.{open_scarce, open_repair, open_idle}

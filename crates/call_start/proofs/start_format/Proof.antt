@@ -9,7 +9,7 @@ use Rattle.card.proofs.HeaderLaws.{sized}
 use Rattle.state.specs.Memory.{resting}
 use Rattle.state.specs.Steps.{Handed}
 use Rattle.state.specs.declared.Doing.TheVariants.{Formatting}
-use Rattle.state.specs.declared.Begun.TheVariants.{Started}
+use Rattle.state.specs.Begun.{Started}
 use Rattle.state.specs.Clauses.{Opened}
 use Rattle.state.proofs.ContractLaws.{open_no_state, opened_call, opened_from}
 use Rattle.call_start.specs.Starts.{format_of}

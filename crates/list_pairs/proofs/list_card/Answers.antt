@@ -2,7 +2,7 @@ use Rattle.std.proofs.Common.{◌≡◌, ap, ap₂, sym, ◌∙◌, ℕ}
 use mathlib.Core.Logic.{⊎_elim}
 use Rattle.card.specs.Header.{nodes_of_length}
 use Rattle.call_open.specs.Opening.{open_of}
-use Rattle.state.specs.declared.Begun.TheVariants.{Idle, Started, Refused}
+use Rattle.state.specs.Begun.{Idle, Started, Refused}
 use Rattle.call_repair.specs.Repairing.{Repaired, left_by}
 use Rattle.list_pairs.specs.Listing.{Listed, list_table, list_card, lay_listed}
 use Rattle.list_pairs.specs.Summaries.{summary_of}

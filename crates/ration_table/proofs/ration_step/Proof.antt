@@ -10,8 +10,8 @@ use borrow.Author.Tests.{eq-eqb}
 use Rattle.card.specs.Replies.{no_state, with_depth}
 use Rattle.state.specs.Answers.{step_reply, told_depth}
 use Rattle.state.specs.Block.{state_words, memory_in}
-use Rattle.state.specs.declared.Answer.{Answer}
-use Rattle.state.specs.declared.Answer.TheVariants.{Refused}
+use Rattle.state.specs.Answer.{Answer}
+use Rattle.state.specs.Answer.{Refused}
 use Rattle.c_replies.specs.ReplyWords.{kept_depth}
 use Rattle.ration_table.proofs.ration_step.Statement.{statement}
 use Rattle.ration_table.proofs.ration_step.Tie as tie

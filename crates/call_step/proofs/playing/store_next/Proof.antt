@@ -7,7 +7,7 @@ use Rattle.call_step.proofs.ContractLaws.{next_below}
 use Rattle.call_step.proofs.LineSteps.{next_refused, next_made}
 use Rattle.card.specs.Lines.{on_line}
 use Rattle.state.specs.Block.{places_at, block_word}
-use Rattle.state.specs.declared.Answer.TheVariants.{Stored}
+use Rattle.state.specs.Answer.{Stored}
 use Rattle.call_step.proofs.PlayLaws.{planned, played_on, ended}
 use borrow.Author.Rules.{rules}
 use Rattle.call_step.proofs.playing.store_next.Statement.{statement}
