@@ -8,3 +8,5 @@ pub mod NodeWords
 pub mod Stores
 -- a line's table as one of its own: its nodes, its root and its stores
 pub mod LineLaws
+-- the numbers of refusals
+pub mod RefusalLaws

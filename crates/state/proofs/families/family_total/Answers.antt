@@ -1,4 +1,4 @@
-use Rattle.std.proofs.Common.{◌≡◌, ◌+◌, ◌<◌, ap, sym, refl, ◌∙◌, arith, drop}
+use Rattle.std.proofs.Common.{◌<◌, ap, sym, refl, ◌∙◌, arith, drop}
 use lib.Seq.{get_or-take, get_or-drop}
 use borrow.Author.Tests.{lt-ltb, le-ltb}
 use Rattle.card_family.specs.Families.{family_count}

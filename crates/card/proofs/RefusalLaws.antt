@@ -1,0 +1,25 @@
+-- Laws of the numbers of refusals.
+use Rattle.std.proofs.Common.{◌≡◌, arith}
+use Rattle.card.specs.Refusals.{number}
+use Rattle.card.specs.declared.refusal.Refusal.{Refusal}
+use Rattle.card.specs.declared.refusal.Refusal.TheVariants.{WrongLength, WrongMark, WrongHeader, Unsound, TooFewFree, ZeroKey, Busy, NoRoom, WrongNode, Idle, WrongDump, ShortSlice, WrongFamily, WrongLine, WrongOffset, WrongRecord, NoState}
+
+-- no refusal has the number 0, which stands for none
+pub number_some : (r : Refusal) → number r ≡ 0 → ⊥
+number_some WrongLength e = omega arith
+number_some WrongMark e = omega arith
+number_some WrongHeader e = omega arith
+number_some Unsound e = omega arith
+number_some TooFewFree e = omega arith
+number_some ZeroKey e = omega arith
+number_some Busy e = omega arith
+number_some NoRoom e = omega arith
+number_some WrongNode e = omega arith
+number_some Idle e = omega arith
+number_some WrongDump e = omega arith
+number_some ShortSlice e = omega arith
+number_some WrongFamily e = omega arith
+number_some WrongLine e = omega arith
+number_some WrongOffset e = omega arith
+number_some WrongRecord e = omega arith
+number_some NoState e = omega arith
