@@ -24,7 +24,7 @@ use Rattle.walk.specs.declared.Look.TheVariants.{Inner as IsInner}
 use Rattle.state.specs.declared.Doing.{Doing}
 use Rattle.state.specs.declared.Doing.TheVariants.{Inserting}
 use Rattle.state.specs.declared.Phase.TheVariants.{InHand}
-use Rattle.state.specs.Answer.{Absent}
+use Rattle.state.specs.declared.Answer.TheVariants.{Absent}
 use Rattle.change_decide.specs.declared.Decision.TheVariants.{Refused as NoStep}
 use Rattle.call_change.specs.Decided.{placed, insert_answer, insert_decided, decided_in}
 use Rattle.call_change.specs.Results.{Arrives}

@@ -16,8 +16,8 @@ use Rattle.state.specs.declared.Doing.TheVariants.{Inserting, Deleting}
 use Rattle.state.specs.declared.Phase.TheVariants.{InHand}
 use Rattle.state.specs.declared.Task.{Task}
 use Rattle.state.specs.declared.Task.TheVariants.{PutIn, TakeOut, Repair}
-use Rattle.state.specs.Answer.{Answer}
-use Rattle.state.specs.Answer.{Absent, Value}
+use Rattle.state.specs.declared.Answer.{Answer}
+use Rattle.state.specs.declared.Answer.TheVariants.{Absent, Value}
 use Rattle.call_change.specs.Updates.{landing, Reason, held, slot, full, insert_reason, FirstChange}
 use Rattle.call_change.specs.declared.First.{First}
 

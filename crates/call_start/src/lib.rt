@@ -3,7 +3,8 @@
 
 #![tactic(auto)]
 
-ghost use Rattle.std.specs.Prelude.{◌≡◌, true, false, ◌≤◌, ◌<◌, length, set, drop};
+ghost use Rattle.std.specs.Prelude.{◌≡◌, ℕ, true, false, ◌≤◌, ◌<◌, length, set, drop, Ok};
+ghost use Rattle.card.specs.Refusals.{number_of};
 ghost use Rattle.card.specs.Header.{Sized};
 ghost use Rattle.card.specs.Layout.{greatest_nodes, depth_limit, node_at, formatted_root};
 ghost use Rattle.card.specs.Lines.{IsLine, seen};
@@ -14,47 +15,46 @@ ghost use Rattle.laws.specs.Cases.{pick};
 ghost use Rattle.state.specs.declared.Doing.TheVariants.{Inserting, Deleting};
 ghost use Rattle.state.specs.declared.Phase.TheVariants.{NotBegun};
 ghost use Rattle.state.specs.Block.{free_at, totals_at, back_at, state_words, part, memory_in};
+ghost use Rattle.state.specs.Begun.{told, Started as BegunStarted};
 ghost use Rattle.state.specs.Clauses.{OpenCall, StartCall};
 ghost use Rattle.call_change.specs.Updates.{landing, insert_reason, room_for};
-ghost use Rattle.call_start.specs.Starts.{format_of, room_of, insert_of, delete_of};
-ghost use Rattle.call_start.specs.Refusals.{start_refusal, is_slot, line_way, room_where, landing_refusal, due_refusal, due_depth, begun_by};
+ghost use Rattle.call_start.specs.Starts.{format_of, room_of, start_accepted, insert_of, delete_of};
+ghost use Rattle.call_start.specs.Refusals.{start_refusal, is_slot, line_way, room_where, landing_refusal, due_refusal, due_depth};
 
+use card::Refusal;
 use card_family::FAMILIES;
 use state::block::{
-    DEPTH, FREE, NO_STATE, NODES, PLACES, STATE_WORDS, is_idle, refuse_beginning, store_doing,
-    store_resting, store_totals, wide,
+    DEPTH, FREE, NODES, PLACES, STATE_WORDS, is_idle, refuse_beginning, store_doing, store_resting,
+    store_totals, wide,
 };
 use state::{Begun, Doing, Phase};
 use walk::{End, Slot};
 
-// The refusals 1, 2, 3, 7, 18 and 6 of starting an update, in this order; 0 where none is due.
-fn early_refusal(
+// The refusals 1, 2, 3, 7, 18 and 6 of starting an update, in this order.
+fn check_start(
     card: &[u32],
     nodes: usize,
     idle: bool,
     line: u32,
     key: u32,
     greatest: usize,
-) -> u32
-    ensures { result ≡ start_refusal greatest line card.now nodes idle key }
+) -> Result<(), Refusal>
+    ensures { number_of result ≡ start_refusal greatest line card.now nodes idle key }
 {
     if !card::is_sized(card.len(), nodes, greatest) {
-        return 1;
+        return Err(Refusal::WrongLength);
     }
-    let header = card::header_refusal(card, nodes);
-    if header != 0 {
-        return header;
-    }
+    card::check_header(card, nodes)?;
     if !idle {
-        return 7;
+        return Err(Refusal::Busy);
     }
     if !card::has_line(card, line) {
-        return 18;
+        return Err(Refusal::WrongLine);
     }
     if key == 0 {
-        return 6;
+        return Err(Refusal::ZeroKey);
     }
-    0
+    Ok(())
 }
 
 // Whether a leaf has a slot with the key word.
@@ -106,83 +106,72 @@ fn has_room_where(splits: bool, card: &[u32], state: &[u32], line: u32, m: usize
     true
 }
 
-// "8: key absent, leaf full, free nodes fewer than j + 5", and 0 where that is not so.
-fn room_refusal(room: bool) -> u32
-    ensures { result ≡ pick room 0 8 }
-{
-    if room { 0 } else { 8 }
-}
-
-// What starting an update is due: a refusal, or 0 and the internal nodes on its key's way ("It is the number .. when the call began":
-// document 02, W-203).
-#[derive(Clone, Copy)]
-pub struct Due {
-    pub refusal: u32,
-    pub depth: usize,
-}
-
-// "9: node number 0 or above N, kind not 1 to 3, no children, or more than 10 internal nodes", then 8. `splits` says whether the update
-// may split its leaf.
-fn way_due(card: &[u32], state: &[u32], line: u32, key: u32, splits: bool) -> Due
+// The refusals 9, "node number 0 or above N, kind not 1 to 3, no children, or more than 10 internal nodes", and 8, "key absent, leaf full,
+// free nodes fewer than j + 5"; or the internal nodes on the key's way ("It is the number .. when the call began": document 02, W-203).
+// `splits` says whether the update may split its leaf.
+fn check_way(
+    card: &[u32],
+    state: &[u32],
+    line: u32,
+    key: u32,
+    splits: bool,
+) -> Result<usize, Refusal>
     requires { (length state.now ≡ state_words) × Sized greatest_nodes (length card.now) (memory_in state.now).nodes × IsLine line }
-    ensures refusal_value { result.refusal ≡ landing_refusal (room_where splits (seen line card.now) key (room_of (memory_in state.now))
+    ensures refused { number_of result ≡ landing_refusal (room_where splits (seen line card.now) key (room_of (memory_in state.now))
         (landing (seen line card.now) (memory_in state.now).nodes key))
         (landing (seen line card.now) (memory_in state.now).nodes key) }
-    ensures depth_value { result.depth ≡ depth_of (leaf_of (way (seen line card.now) (memory_in state.now).nodes key)) }
+    ensures depth { (d : ℕ) → result ≡ Ok d → d ≡ depth_of (leaf_of (way (seen line card.now) (memory_in state.now).nodes key)) }
 {
     let nodes = wide(state[NODES]);
-    match walk::descend(card, nodes, key, card::root_of(card, line), false) {
-        End::Refused => Due {
-            refusal: 9,
-            depth: 0,
-        },
-        End::Fault(_) => Due {
-            refusal: 9,
-            depth: 0,
-        },
-        End::Leaf { position, depth } => Due {
-            refusal: room_refusal(has_room_where(splits, card, state, line, position.node, key)),
-            depth,
-        },
+    let End::Leaf { position, depth } = walk::descend(
+        card,
+        nodes,
+        key,
+        card::root_of(card, line),
+        false,
+    ) else {
+        return Err(Refusal::WrongNode);
+    };
+    if has_room_where(splits, card, state, line, position.node, key) {
+        Ok(depth)
+    } else {
+        Err(Refusal::NoRoom)
     }
 }
 
-// The early refusals, by the words of a block, and then those of the way.
-fn block_due(card: &[u32], state: &[u32], line: u32, key: u32, splits: bool, greatest: usize) -> Due
+// All refusals of starting an update, by the words of a block; or the internal nodes on its key's way.
+fn check_update(
+    card: &[u32],
+    state: &[u32],
+    line: u32,
+    key: u32,
+    splits: bool,
+    greatest: usize,
+) -> Result<usize, Refusal>
     requires { length state.now ≡ state_words }
-    ensures refusal_value { result.refusal
+    ensures refused { number_of result
         ≡ due_refusal greatest line card.now (memory_in state.now) key
         (room_where splits (seen line card.now) key (room_of (memory_in state.now))) }
-    ensures depth_value { result.depth ≡ due_depth greatest line card.now (memory_in state.now) key }
+    ensures depth { (d : ℕ) → result ≡ Ok d → d ≡ due_depth greatest line card.now (memory_in state.now) key }
 {
-    let early = early_refusal(
+    check_start(
         card,
         wide(state[NODES]),
         is_idle(state),
         line,
         key,
         greatest,
-    );
-    if early != 0 {
-        return Due {
-            refusal: early,
-            depth: 0,
-        };
-    }
-    way_due(card, state, line, key, splits)
+    )?;
+    check_way(card, state, line, key, splits)
 }
 
-// "Starting an update stores nothing": the block with the update in hand, or as it was where a refusal is due.
-fn begin(state: &mut [u32], doing: Doing, refusal: u32, depth: usize) -> Begun
+// "Starting an update stores nothing": the block has the update in hand.
+fn begin(state: &mut [u32], doing: Doing, depth: usize)
     requires { (length state.old ≡ state_words) × (depth ≤ depth_limit) }
-    ensures { StartCall state.old state.new result doing (begun_by refusal depth (memory_in state.old) doing) }
+    ensures { StartCall state.old state.new BegunStarted doing (start_accepted (memory_in state.old) doing depth) }
 {
-    if refusal != 0 {
-        return Begun::Refused(refusal);
-    }
     store_doing(state, doing);
     state[DEPTH] = depth as u32;
-    Begun::Started
 }
 
 // The root that formatting makes, as a number of a node.
@@ -211,16 +200,15 @@ fn hold_empty(state: &mut [u32], n: usize)
 
 // "Formatting needs no earlier state". While it goes on the free nodes are those of the table it makes, and the search for one begins
 // after the root of that table (document 02, W-205).
-pub fn start_format(card: &[u32], state: &mut [u32], greatest: usize) -> Begun
-    ensures { OpenCall state.old state.new result (format_of greatest card.now) }
+pub fn start_format(card: &[u32], state: &mut [u32], greatest: usize) -> Result<Begun, Refusal>
+    ensures { OpenCall state.old state.new (told result) (format_of greatest card.now) }
 {
     if state.len() != STATE_WORDS {
-        return Begun::Refused(NO_STATE);
+        return Err(Refusal::NoState);
     }
-    let n = card::nodes_of(card.len(), greatest);
-    if n == 0 {
-        return refuse_beginning(state, 1);
-    }
+    let Some(n) = card::nodes_of(card.len(), greatest) else {
+        return refuse_beginning(state, Refusal::WrongLength);
+    };
     hold_empty(state, n);
     store_resting(
         state,
@@ -228,7 +216,7 @@ pub fn start_format(card: &[u32], state: &mut [u32], greatest: usize) -> Begun
         card::FORMATTED_ROOT,
         Doing::Formatting { made: 0 },
     );
-    Begun::Started
+    Ok(Begun::Started)
 }
 
 // "Starting an update stores nothing." A line that the card has not is refused with 18, just before 6 (document 02, W-207).
@@ -239,35 +227,43 @@ pub fn start_insert(
     key: u32,
     value: u32,
     greatest: usize,
-) -> Begun
-    ensures { StartCall state.old state.new result (Inserting key value NotBegun)
+) -> Result<Begun, Refusal>
+    ensures { StartCall state.old state.new (told result) (Inserting key value NotBegun)
         (insert_of greatest line card.now (memory_in state.old) key value) }
 {
     if state.len() != STATE_WORDS {
-        return Begun::Refused(NO_STATE);
+        return Err(Refusal::NoState);
     }
     let doing = Doing::Inserting {
         key,
         value,
         phase: Phase::NotBegun,
     };
-    let due = block_due(card, state, line, key, true, greatest);
-    begin(state, doing, due.refusal, due.depth)
+    let depth = check_update(card, state, line, key, true, greatest)?;
+    begin(state, doing, depth);
+    Ok(Begun::Started)
 }
 
 // "Refusing a delete on a full card" would spoil a bin: a delete needs no free nodes to start.
-pub fn start_delete(card: &[u32], state: &mut [u32], line: u32, key: u32, greatest: usize) -> Begun
-    ensures { StartCall state.old state.new result (Deleting key NotBegun 0)
+pub fn start_delete(
+    card: &[u32],
+    state: &mut [u32],
+    line: u32,
+    key: u32,
+    greatest: usize,
+) -> Result<Begun, Refusal>
+    ensures { StartCall state.old state.new (told result) (Deleting key NotBegun 0)
         (delete_of greatest line card.now (memory_in state.old) key) }
 {
     if state.len() != STATE_WORDS {
-        return Begun::Refused(NO_STATE);
+        return Err(Refusal::NoState);
     }
     let doing = Doing::Deleting {
         key,
         phase: Phase::NotBegun,
         value: 0,
     };
-    let due = block_due(card, state, line, key, false, greatest);
-    begin(state, doing, due.refusal, due.depth)
+    let depth = check_update(card, state, line, key, false, greatest)?;
+    begin(state, doing, depth);
+    Ok(Begun::Started)
 }

@@ -3,7 +3,7 @@ use mathlib.Core.Path.{ap, sym, ◌∙◌}
 use Prim.Native.Nat.{◌<◌}
 use native.Mathlib.Omega.{arith}
 use Rattle.change_decide.specs.declared.Decision.{Decision}
-use Rattle.state.specs.Answer.{Absent}
+use Rattle.state.specs.declared.Answer.TheVariants.{Absent}
 use Rattle.state.specs.declared.Doing.TheVariants.{Inserting}
 use Rattle.state.specs.declared.Phase.TheVariants.{InHand}
 use Rattle.walk.specs.declared.Slot.{Slot}
