@@ -19,6 +19,7 @@ use Rattle.change_decide.specs.declared.Decision.{Decision}
 use Rattle.change_decide.proofs.LineDecisions.{repair_seen}
 use Rattle.change_layout.proofs.LineLayOut.{lay_out_seen}
 use Rattle.change_plan.specs.Planning.{Preparation}
+use Rattle.state.specs.Answer.{given}
 use Rattle.state.specs.declared.Doing.{Doing}
 use Rattle.state.specs.declared.Task.{Task}
 use Rattle.state.specs.declared.Task.TheVariants.{PutIn, TakeOut, Repair}
@@ -74,4 +75,4 @@ module _ (line : ℕ) (card : List ℕ) (n : ℕ) where
       let f = decided_below card n (get_or card (root_of line) 0) doing task in
       next_decided (seen line card) free last n doing task
       ∙ ap (λ (g : First). laid_first (seen line card) g free last) (decided_seen doing task)
-      ∙ ap (λ (x : Preparation). record { doing = f.doing; final = f.answer; preparation = x }) (lay_out_seen line card f.decision free last)
+      ∙ ap (λ (x : Preparation). record { doing = f.doing; final = given f.answer; preparation = x }) (lay_out_seen line card f.decision free last)

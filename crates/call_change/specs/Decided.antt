@@ -16,6 +16,7 @@ use Rattle.state.specs.declared.Doing.TheVariants.{Inserting, Deleting}
 use Rattle.state.specs.declared.Phase.TheVariants.{InHand}
 use Rattle.state.specs.declared.Task.{Task}
 use Rattle.state.specs.declared.Task.TheVariants.{PutIn, TakeOut, Repair}
+use Rattle.state.specs.Answer.{given}
 use Rattle.state.specs.declared.Answer.{Answer}
 use Rattle.state.specs.declared.Answer.TheVariants.{Absent, Value}
 use Rattle.call_change.specs.Updates.{landing, Reason, held, slot, full, insert_reason, FirstChange}
@@ -61,4 +62,4 @@ decided card n doing (Repair key answer) = record { doing = doing; answer = answ
 
 -- the change of it, over the nodes that are free and the one given last
 abbrev pub laid_first : List ℕ → First → List Bool → ℕ → FirstChange
-laid_first card f free last = record { doing = f.doing; final = f.answer; preparation = lay_out card f.decision free last }
+laid_first card f free last = record { doing = f.doing; final = given f.answer; preparation = lay_out card f.decision free last }

@@ -15,8 +15,7 @@ use Rattle.state.specs.declared.Doing.TheVariants.{Inserting, Deleting}
 use Rattle.state.specs.declared.Phase.TheVariants.{InHand}
 use Rattle.state.specs.declared.Task.{Task}
 use Rattle.state.specs.declared.Task.TheVariants.{PutIn, TakeOut, Repair}
-use Rattle.state.specs.declared.Answer.{Answer}
-use Rattle.state.specs.declared.Answer.TheVariants.{Absent, Value}
+use Rattle.state.specs.Answer.{Answer, Absent, Value, given}
 
 -- the leaf that a key leads to
 unfoldable pub landing : List ℕ → ℕ → ℕ → Landing
@@ -79,7 +78,7 @@ in_leaf card doing change (LandingAt m link run) = change m link (node_at card m
 unfoldable pub next_change : List ℕ → ℕ → List Bool → ℕ → Doing → Task → FirstChange
 next_change card n free last doing (PutIn key value) = in_leaf card doing (insert_in key value free last) (landing card n key)
 next_change card n free last doing (TakeOut key) = in_leaf card doing (delete_in key free last) (landing card n key)
-next_change card n free last doing (Repair key answer) = record { doing = doing; final = answer; preparation = next_repair card n key free last }
+next_change card n free last doing (Repair key answer) = record { doing = doing; final = given answer; preparation = next_repair card n key free last }
 
 -- "A splitting insert needs j + 5 free nodes."
 abbrev pub split_need : ℕ → ℕ

@@ -32,7 +32,7 @@ use Rattle.state.specs.Memory.{Memory, advanced}
 use Rattle.state.specs.Results.{more_to_store}
 use Rattle.state.specs.Steps.{Step, held_by, step_store}
 use Rattle.state.specs.Block.{free_at, places_at, values_at, state_words, block_word, part, memory_in}
-use Rattle.state.specs.Answer.{Answer}
+use Rattle.state.specs.Answer.{Answer, given}
 use Rattle.state.specs.Answer.{Stored, Ready, Absent, Value, Refused}
 use Rattle.state.specs.declared.Doing.{Doing}
 use Rattle.state.specs.declared.Task.{Task}
@@ -196,7 +196,7 @@ module _ (greatest line : ℕ) (card b : List ℕ) (long : length b ≡ state_wo
       ∙ ap (λ (f : First). laid_first own f state.free state.last) (sym is)
 
   pub task_prepares : step_task own state task []
-      ≡ step_prepared own state next.doing next.answer (lay_out own next.decision state.free state.last)
+      ≡ step_prepared own state next.doing (given next.answer) (lay_out own next.decision state.free state.last)
   unfolding step_task step_begin
   task_prepares = ap (step_begin own state) next_is
 
@@ -205,7 +205,7 @@ module _ (greatest line : ℕ) (card b : List ℕ) (long : length b ≡ state_wo
   task_refused o =
       made_still line card b
       (made_refused own b 9
-      (task_prepares ∙ ap (step_prepared own state next.doing next.answer) (laid_refused own next.decision state.free state.last o))) tt
+      (task_prepares ∙ ap (step_prepared own state next.doing (given next.answer)) (laid_refused own next.decision state.free state.last o))) tt
 
   block_ends : (a : Answer) → Ends a → (step_block own b a ≡ idled_block b) × Still a
   unfolding Ends Still step_block
@@ -216,16 +216,16 @@ module _ (greatest line : ℕ) (card b : List ℕ) (long : length b ≡ state_wo
   block_ends (Refused r) e = absurd e
 
   pub task_ended : {after : List ℕ} → outcome_of next.decision ≡ NoChange → after ≡ idled_block b
-      → MadeOn line card b card after next.answer (step_task own state task [])
+      → MadeOn line card b card after (given next.answer) (step_task own state task [])
   unfolding step_prepared
   task_ended o w =
       let ends =
-      block_ends next.answer
+      block_ends (given next.answer)
       (subst Ends (ap (λ (f : FirstChange). f.final) next_is)
       (next_ends greatest own state.nodes state.free state.last state.doing task (task_of state.doing task holds))) in
       made_still line card b
-      (made_final own b {answer = next.answer}
-      (task_prepares ∙ ap (step_prepared own state next.doing next.answer) (laid_balanced own next.decision state.free state.last o)) ends.0 w)
+      (made_final own b {answer = given next.answer}
+      (task_prepares ∙ ap (step_prepared own state next.doing (given next.answer)) (laid_balanced own next.decision state.free state.last o)) ends.0 w)
       ends.1
 
   pub task_changes : Sized greatest (length card) state.nodes → state.rest ≡ [] → outcome_of next.decision ≡ Prepared
@@ -233,7 +233,7 @@ module _ (greatest line : ℕ) (card b : List ℕ) (long : length b ≡ state_wo
   task_changes size no_rest o =
       record {
         task = task;
-        final = next.answer;
+        final = given next.answer;
         holds = holds;
         none = no_rest;
         next = next_is;

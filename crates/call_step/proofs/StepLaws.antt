@@ -20,7 +20,8 @@ use Rattle.state.specs.Results.{more_to_store}
 use Rattle.state.specs.Steps.{Step, is_idle, held_by, step_refused, step_store, format_store, step_format}
 use Rattle.state.specs.Block.{state_words, block_word, doing_in, memory_in}
 use Rattle.state.specs.Answer.{Answer}
-use Rattle.state.specs.Answer.{Ready, Absent, Value, Refused}
+use Rattle.state.specs.Answer.{Refused}
+use Rattle.state.specs.declared.Answer.TheVariants.{Ready as AnswerReady, Absent as AnswerAbsent, Value as AnswerValue}
 use Rattle.state.specs.declared.Doing.{Doing}
 use Rattle.state.specs.declared.Doing.TheVariants.{Idle, Formatting, Inserting, Deleting, Repairing}
 use Rattle.state.specs.declared.Phase.TheVariants.{NotBegun, InHand, Decided}
@@ -148,12 +149,12 @@ unfolding is_idle held_by
 busy_holds Idle e p = impossible (cc)
 busy_holds (Formatting made) e p = absurd (p made refl)
 busy_holds (Inserting key value NotBegun) e p = (PutIn key value, refl)
-busy_holds (Inserting key value InHand) e p = (Repair key Absent, refl)
-busy_holds (Inserting key value Decided) e p = (Repair key Absent, refl)
+busy_holds (Inserting key value InHand) e p = (Repair key AnswerAbsent, refl)
+busy_holds (Inserting key value Decided) e p = (Repair key AnswerAbsent, refl)
 busy_holds (Deleting key NotBegun value) e p = (TakeOut key, refl)
-busy_holds (Deleting key InHand value) e p = (Repair key (Value value), refl)
-busy_holds (Deleting key Decided value) e p = (Repair key (Value value), refl)
-busy_holds (Repairing key) e p = (Repair key Ready, refl)
+busy_holds (Deleting key InHand value) e p = (Repair key (AnswerValue value), refl)
+busy_holds (Deleting key Decided value) e p = (Repair key (AnswerValue value), refl)
+busy_holds (Repairing key) e p = (Repair key AnswerReady, refl)
 
 both_true : (idle more : Bool) → not idle && more ≡ true → (idle ≡ false) × (more ≡ true)
 both_true true more e = impossible (cc)

@@ -4,7 +4,8 @@ ghost use Rattle.card.specs.Layout.{greatest_nodes};
 ghost use Rattle.card.specs.Header.{Sized};
 ghost use Rattle.state.specs.Block.{state_words, block_word, memory_in};
 ghost use Rattle.state.specs.Steps.{formatted_word, format_store, step_format};
-ghost use Rattle.state.specs.Answer.{Stored};
+ghost use Rattle.state.specs.Answer.{given};
+ghost use Rattle.state.specs.declared.Answer.TheVariants.{Stored};
 ghost use Rattle.call_step.specs.Clauses.{StepMade};
 
 use crate::playing::finish;
@@ -46,7 +47,7 @@ fn store_format(card: &mut [u32], state: &mut [u32], place: u32, word: u32) -> A
 // The store after so many, or the end: "so 8 + 24 × N + 1 stores, then ready".
 pub fn step_format(card: &mut [u32], state: &mut [u32]) -> Answer
     requires { (length state.old ≡ state_words) × (block_word state.old 2 ≡ 1) × Sized greatest_nodes (length card.old) (block_word state.old 0) }
-    ensures { StepMade card.old state.old card.new state.new result
+    ensures { StepMade card.old state.old card.new state.new (given result)
         (step_format card.old (memory_in state.old) (block_word state.old 3)
         (format_store (block_word state.old 0) (length card.old) (block_word state.old 3))) }
 {

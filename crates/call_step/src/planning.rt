@@ -13,7 +13,7 @@ ghost use Rattle.change_plan.specs.declared.Outcome.TheVariants.{Prepared};
 ghost use Rattle.state.specs.Steps.{is_idle, held_by};
 ghost use Rattle.state.specs.Results.{more_to_store};
 ghost use Rattle.state.specs.Block.{free_at, state_words, block_word, part, memory_in};
-ghost use Rattle.state.specs.Answer.{Answer};
+ghost use Rattle.state.specs.Answer.{Answer as Told, told};
 ghost use Rattle.state.specs.declared.Held.TheVariants.{Task as HeldTask};
 ghost use Rattle.call_step.specs.Calls.{step_prepared, step_task, step_held};
 ghost use Rattle.call_step.specs.StepBlocks.{planned_over};
@@ -21,6 +21,7 @@ ghost use Rattle.call_step.specs.Clauses.{StepMade, MadeOn, Changes};
 
 use crate::playing::{end_change, finish, store_word};
 use call_change::next_change;
+use card::Refusal;
 use change_decide::Decision;
 use change_layout::{Size, cut_of, lay_places, lay_values, size_of};
 use change_plan::Outcome;
@@ -67,11 +68,11 @@ fn step_change(
     doing: Doing,
     decision: Decision,
     size: Size,
-) -> Answer
+) -> Result<Answer, Refusal>
     requires { (length state.old ≡ state_words) × Sized greatest_nodes (length card.old) (block_word state.old 0)
         × Fits card.old decision × (outcome_of decision ≡ Prepared) × (size ≡ size_of decision) }
-    ensures { (line : ℕ) → Changes (seen line card.old) state.old doing decision → (final : Answer)
-        → MadeOn line card.old state.old card.new state.new result
+    ensures { (line : ℕ) → Changes (seen line card.old) state.old doing decision → (final : Told)
+        → MadeOn line card.old state.old card.new state.new (told result)
         (step_prepared (seen line card.old) (memory_in state.old) doing final
         (lay_out (seen line card.old) decision (memory_in state.old).free (memory_in state.old).last)) }
 {
@@ -80,25 +81,31 @@ fn step_change(
         wide(state[LAST]),
         size.nodes,
     ) else {
-        return Answer::Refused(9);
+        return Err(Refusal::WrongNode);
     };
     if state[NODES] < left {
-        return Answer::Refused(9);
+        return Err(Refusal::WrongNode);
     }
     plan(card, state, doing, decision, size, [left, right, above]);
     let place = state[PLACES];
     if store_word(card, state, 0, wide(place)) {
-        return Answer::Stored(place);
+        return Ok(Answer::Stored(place));
     }
     end_change(state);
-    Answer::Stored(place)
+    Ok(Answer::Stored(place))
 }
 
 // The next change of a task: by what is decided refused, the final answer, or a change.
-fn step_task(card: &mut [u32], state: &mut [u32], line: u32, doing: Doing, task: Task) -> Answer
+fn step_task(
+    card: &mut [u32],
+    state: &mut [u32],
+    line: u32,
+    doing: Doing,
+    task: Task,
+) -> Result<Answer, Refusal>
     requires { (length state.old ≡ state_words) × Sized greatest_nodes (length card.old) (block_word state.old 0)
         × (doing ≡ (memory_in state.old).doing) × (held_by (memory_in state.old).doing ≡ HeldTask task) × ((memory_in state.old).rest ≡ []) × IsLine line }
-    ensures { MadeOn line card.old state.old card.new state.new result
+    ensures { MadeOn line card.old state.old card.new state.new (told result)
         (step_task (seen line card.old) (memory_in state.old) task []) }
 {
     let next = next_change(card, wide(state[NODES]), line, doing, task);
@@ -108,27 +115,27 @@ fn step_task(card: &mut [u32], state: &mut [u32], line: u32, doing: Doing, task:
     let size = size_of(decision);
     let outcome = size.outcome;
     match outcome {
-        Outcome::Refused => Answer::Refused(9),
+        Outcome::Refused => Err(Refusal::WrongNode),
         Outcome::Balanced => {
             finish(state);
-            answer
+            Ok(answer)
         }
         Outcome::Prepared => step_change(card, state, then, decision, size),
     }
 }
 
 // A step that has no store left to make, nor formats: "10: state idle", or the next change of the task.
-pub fn step_plan(card: &mut [u32], state: &mut [u32], line: u32) -> Answer
+pub fn step_plan(card: &mut [u32], state: &mut [u32], line: u32) -> Result<Answer, Refusal>
     requires { (length state.old ≡ state_words) × Sized greatest_nodes (length card.old) (block_word state.old 0)
         × (header_refusal card.old (block_word state.old 0) ≡ 0) × (block_word state.old 2 ≡ 1 → ⊥)
         × (not (is_idle (memory_in state.old).doing) && more_to_store (memory_in state.old).rest ≡ false) × IsLine line }
-    ensures { StepMade (seen line card.old) state.old card.new state.new result
+    ensures { StepMade (seen line card.old) state.old card.new state.new (told result)
         (step_held line card.old (memory_in state.old) (held_by (memory_in state.old).doing)) }
 {
     let head = head_in(state);
     let doing = head.doing;
     let Held::Task(task) = held_by(doing) else {
-        return Answer::Refused(10);
+        return Err(Refusal::Idle);
     };
     step_task(card, state, line, doing, task)
 }

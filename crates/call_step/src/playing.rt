@@ -8,12 +8,14 @@ ghost use Rattle.change_plan.specs.Planning.{with_all};
 ghost use Rattle.card_family.specs.Families.{family_count};
 ghost use Rattle.state.specs.Memory.{settled_totals, advanced};
 ghost use Rattle.state.specs.Steps.{is_idle, step_store};
+ghost use Rattle.state.specs.Answer.{told};
 ghost use Rattle.state.specs.Results.{more_to_store};
 ghost use Rattle.state.specs.Block.{free_at, places_at, totals_at, values_at, state_words, block_word, part, doing_in, memory_in};
 ghost use Rattle.state.specs.Blocks.{over, words_of};
 ghost use Rattle.call_step.specs.StepBlocks.{idled_block, totalled, settled_block};
 ghost use Rattle.call_step.specs.Clauses.{MadeOn, HoldsTask};
 
+use card::Refusal;
 use state::Answer;
 use state::block::{
     COUNT, CUT, DECIDED, DELETING, DOING, FIRST, FREE, IDLE, IN_HAND, INSERTING, LINES, MADE,
@@ -162,10 +164,10 @@ pub fn end_change(state: &mut [u32])
 
 // The next store of the plan, which has one; "or its store is outside the card": refused. The place is looked at before the store, so
 // that a refusal stores nothing. The plan is that of the line's own table.
-pub fn store_next(card: &mut [u32], state: &mut [u32], line: u32) -> Answer
+pub fn store_next(card: &mut [u32], state: &mut [u32], line: u32) -> Result<Answer, Refusal>
     requires { (length state.old ≡ state_words) × (more_to_store (memory_in state.old).rest ≡ true)
         × HoldsTask (memory_in state.old).doing × (8 ≤ length card.old) × IsLine line }
-    ensures { MadeOn line card.old state.old card.new state.new result
+    ensures { MadeOn line card.old state.old card.new state.new (told result)
         (step_store (seen line card.old) (memory_in state.old) (get_or (memory_in state.old).rest 0 (0, 0))
         (advanced (memory_in state.old) (drop 1 (memory_in state.old).rest))) }
 {
@@ -174,11 +176,11 @@ pub fn store_next(card: &mut [u32], state: &mut [u32], line: u32) -> Answer
     let place = card::on_line(line, planned);
     let at = wide(place);
     if card.len() <= at {
-        return Answer::Refused(9);
+        return Err(Refusal::WrongNode);
     }
     if store_word(card, state, made, at) {
-        return Answer::Stored(place);
+        return Ok(Answer::Stored(place));
     }
     end_change(state);
-    Answer::Stored(place)
+    Ok(Answer::Stored(place))
 }

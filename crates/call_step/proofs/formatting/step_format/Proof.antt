@@ -4,6 +4,7 @@ use Prim.Native.Nat.{ℕ, ◌<◌, ◌≤◌}
 use native.Mathlib.Omega.{arith}
 use lib.ListN.{length, set}
 use Rattle.laws.proofs.Cases.{order}
+use Rattle.state.specs.Answer.{given}
 use Rattle.state.specs.Block.{block_word}
 use Rattle.state.specs.Steps.{formatted_word}
 use Rattle.state.proofs.StepLaws.{format_first, format_middle, format_last, format_end}
@@ -42,7 +43,7 @@ returns-then-made-eq0 c =
     let b = c.args.state.now in
     let f = store_format.ensures in
     made_format card b 0 0 (format_first (block_word b 0) (length card) (block_word b 3) (sym wide.ensures ∙ if1.true))
-    c.requires.1 f.0 f.1 f.2
+    c.requires.1 (ap given f.0) f.1 f.2
 
 bounds-state-0 : tie.Need-bounds-state-0
 bounds-state-0 c = search rules
@@ -79,7 +80,7 @@ returns-then-made-card c =
     let f = store_format2.ensures in
     made_format card b (block_word b 3) (formatted_word (block_word b 0) (block_word b 3))
     (format_middle (block_word b 0) (length card) (block_word b 3) (λ z. if1.false (wide.ensures ∙ z)) (omega (arith, wide.ensures, if2.true)))
-    c.requires.1 f.0
+    c.requires.1 (ap given f.0)
     (f.1 ∙ ap (set card (block_word b 3)) (formatted_word_lem.ensures ∙ ap₂ formatted_word wide2.ensures wide.ensures))
     f.2
 
@@ -106,7 +107,7 @@ returns-then-made-card-2 c =
     let f = store_format3.ensures in
     made_format card b 0 1
     (format_last (block_word b 0) (length card) (block_word b 3) (λ z. if1.false (wide.ensures ∙ z)) (sym wide.ensures ∙ if3.true))
-    c.requires.1 f.0 f.1 f.2
+    c.requires.1 (ap given f.0) f.1 f.2
 
 finish-requires : tie.Need-finish-requires
 finish-requires c κs = search rules

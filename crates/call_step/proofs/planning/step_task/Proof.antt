@@ -8,6 +8,7 @@ use Prim.Native.Nat.{ℕ}
 use Rattle.change_layout.specs.LayOut.{outcome_of, size_of}
 use Rattle.change_layout.specs.declared.Size.{Size}
 use Rattle.call_change.specs.Decided.{decided}
+use Rattle.state.specs.Answer.{given}
 use Rattle.state.specs.Block.{memory_in}
 use Rattle.state.specs.declared.Doing.{Doing}
 use Rattle.call_step.specs.Clauses.{MadeOn}
@@ -105,7 +106,7 @@ returns-in-Prepared c =
     (is_decided c.before.before.before.before.before.before.before.before.before) c.requires.1 c.requires.4 o in
     subst (MadeOn line card b _ _ _)
     (sym (task_prepares greatest_nodes line card b c.requires.0 c.args.task c.requires.3 next_change_call.result (is_decided c.before.before.before.before.before.before.before.before.before)))
-    (step_change.ensures line changes next_change_call.result.answer)
+    (step_change.ensures line changes (given next_change_call.result.answer))
 
 pub step_task_spec : {M : Type 1} → statement M
 step_task_spec =
