@@ -5,33 +5,36 @@
 ghost use Rattle.std.specs.Prelude.{◌≡◌, length};
 ghost use Rattle.call_open.specs.Opening.{open_of};
 ghost use Rattle.call_step.specs.Calls.{repair_steps};
+ghost use Rattle.state.specs.Begun.{told};
 ghost use Rattle.state.specs.Block.{state_words, memory_in};
 ghost use Rattle.call_repair.specs.Repairing.{repaired_card, opened_card, left_by};
 
 use call_open::open;
 use call_step::step;
+use card::Refusal;
 use state::Begun;
 use state::block::is_idle;
 
-// Steps until the state is idle. A repair takes at most 73 stores for each level, and one step for its answer.
+// "a change is at most 73 stores": a repair takes at most those for each level, and one step for its answer.
+const REPAIR_STEPS: usize = card::PLAN_SIZE * card::DEPTH_LIMIT + 1;
+
+// Steps until the state is idle. What they answer says nothing that the state does not.
 fn repair(card: &mut [u32], state: &mut [u32], greatest: usize)
     requires { length state.old ≡ state_words }
     ensures { left_by card.new state.new ≡ repaired_card greatest repair_steps card.old (memory_in state.old) }
 {
-    let mut left: usize = card::PLAN_SIZE * card::DEPTH_LIMIT + 1;
-    while 0 < left {
+    for _ in 0..REPAIR_STEPS {
         if is_idle(state) {
             return;
         }
-        step(card, state, card::FIRST_LINE, greatest);
-        left -= 1;
+        let _ = step(card, state, card::FIRST_LINE, greatest);
     }
 }
 
 // "opens and repairs it in memory". Refused, opening hands back an idle state, and nothing is stored.
-pub fn open_repaired(card: &mut [u32], state: &mut [u32], greatest: usize) -> Begun
+pub fn open_repaired(card: &mut [u32], state: &mut [u32], greatest: usize) -> Result<Begun, Refusal>
     requires { length state.old ≡ state_words }
-    ensures value { result ≡ (open_of greatest card.old).begun }
+    ensures value { told result ≡ (open_of greatest card.old).begun }
     ensures state_after { left_by card.new state.new ≡ opened_card greatest card.old }
 {
     let begun = open(card, state, greatest);
