@@ -3,8 +3,8 @@ use Rattle.std.specs.Prelude.{◌≡◌, ℕ, ◌^◌, ◌<◌, List, length, eq
 use Rattle.laws.specs.Cases.{pick}
 use Rattle.card.specs.Replies.{Reply}
 use Rattle.state.specs.Block.{state_words, memory_in}
-use Rattle.card_dump.specs.declared.Answer.{Answer as DumpAnswer}
-use Rattle.card_dump.specs.declared.Answer.TheVariants.{Length}
+use Rattle.card_dump.specs.Answer.{Answer as DumpAnswer}
+use Rattle.card_dump.specs.Answer.{Length}
 use Rattle.c_replies.specs.declared.Reply.{Reply as FourWords}
 
 -- the four words of an answer

@@ -22,7 +22,7 @@ use Rattle.call_step.specs.Calls.{step_of, repair_steps}
 use Rattle.card_dump.specs.Dump.{dump_words, read_answer, read_over}
 use Rattle.card_dump.proofs.AnswerLaws.{read_words}
 use Rattle.card_dump.proofs.ByteLaws.{length_dump_words}
-use Rattle.card_dump.specs.declared.Answer.TheVariants.{Length, Refused as ReadRefused}
+use Rattle.card_dump.specs.Answer.{Length, Refused as ReadRefused}
 use Rattle.call_repair.specs.Repairing.{Repaired, repaired_card, opened_card, opened_read, opened_over}
 
 pub repair_idle : (greatest : ℕ) (k : ℕ) (card : List ℕ) (m : Memory) → is_idle m.doing ≡ true → repaired_card greatest k card m ≡ record { card = card; memory = m }

@@ -7,8 +7,8 @@ use Rattle.state.specs.Block.{memory_in}
 use Rattle.call_open.specs.Opening.{open_of}
 use Rattle.call_step.specs.Calls.{step_of, repair_steps}
 use Rattle.card_dump.specs.Dump.{words_for, dump_words, read_answer}
-use Rattle.card_dump.specs.declared.Answer.{Answer}
-use Rattle.card_dump.specs.declared.Answer.TheVariants.{Length, Refused as ReadRefused}
+use Rattle.card_dump.specs.Answer.{Answer}
+use Rattle.card_dump.specs.Answer.{Length, Refused as ReadRefused}
 
 -- the card and the state after a repair
 pub record Repaired : Type 0 where

@@ -10,12 +10,14 @@ use borrow.Author.Tests.{lt-ltb, le-ltb, ltb-false, eq-eqb, ne_eqb, eqb-true, no
 use Rattle.laws.proofs.Cases.{bool_cases, impossible}
 use Rattle.laws.specs.Lists.{all_zero}
 use Rattle.card.specs.Layout.{least_nodes, greatest_nodes, limited}
+use Rattle.card.specs.Refusals.{number}
+use Rattle.card.specs.declared.refusal.Refusal.{Refusal}
 use Rattle.card.specs.Header.{nodes_of_length, card_refusal, Sized, Formatted}
 use Rattle.card.proofs.HeaderLaws.{limited_most, limited_within, within_limited, nodes_sized, header_formatted, card_no_length, card_header}
 use Rattle.card_dump.specs.Dump.{padded_length, dump_of, dump_words, words_for, greatest_dump, dump_nodes, faults, any, damaged}
 use Rattle.card_dump.specs.Dump.{fitting_length, lent_after, read_answer, read_over, write_answer, write_over}
-use Rattle.card_dump.specs.declared.Answer.{Answer}
-use Rattle.card_dump.specs.declared.Answer.TheVariants.{Length, Refused}
+use Rattle.card_dump.specs.Answer.{Answer}
+use Rattle.card_dump.specs.Answer.{Length, Refused}
 
 -- ---- the padded length
 
@@ -119,6 +121,14 @@ whole_undamaged greatest dump w =
       w.zeros,
     )
 
+-- past the other tests the padding decides
+pub padding_decides : (greatest : ℕ) (dump : List ℕ) → least_nodes ≤ dump_nodes dump → dump_nodes dump ≤ limited greatest
+    → padded_length (words_for (dump_nodes dump)) ≡ length dump
+    → (z : Bool) → z ≡ all_zero (drop (4 * words_for (dump_nodes dump)) dump) → not z ≡ damaged greatest dump
+padding_decides greatest dump l m p true e =
+    sym (whole_undamaged greatest dump (record { least = l; most = omega (arith, limited_most greatest); within = omega (arith, limited_within greatest); padded = p; zeros = sym e }))
+padding_decides greatest dump l m p false e = sym (damaged_padding greatest dump (sym e))
+
 -- ---- refusals 1, 2, 3 and 12
 
 -- a card that is not refused
@@ -194,6 +204,10 @@ module _ (greatest : ℕ) (dump words : List ℕ) where
   read_refused r e = read_stores greatest dump words (Refused r) e
 
 -- ---- writing
+
+-- a refusal's number is not 0
+pub refusal_some : (r : Refusal) → number r ≡ 0 → ⊥
+refusal_some r e = grind arith
 
 module _ (greatest : ℕ) (card : List ℕ) (lent : ℕ) where
   pub write_refuses : (r : ℕ) → card_refusal greatest card ≡ r → (r ≡ 0 → ⊥) → write_answer greatest card lent ≡ Refused r

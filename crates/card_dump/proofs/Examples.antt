@@ -7,7 +7,7 @@ use Rattle.laws.specs.Lists.{pad}
 use Rattle.card.specs.Layout.{greatest_nodes, node_image}
 use Rattle.card.specs.Header.{nodes_of_length, header_refusal, card_refusal}
 use Rattle.card_dump.specs.Dump.{word_bytes, card_bytes, padded_length, dump_of, word_at, dump_words, faults, damaged, fitting_length, read_answer, write_answer}
-use Rattle.card_dump.specs.declared.Answer.TheVariants.{Length, Refused}
+use Rattle.card_dump.specs.Answer.{Length, Refused}
 
 -- "words 0 to 4 are 1, 4, 8, 24, 1; word 8 is 1; 9 and 10 are 7, 3; 20 and 21 are 70, 31; others 0"
 unfoldable pub example : List ℕ

@@ -1,12 +1,16 @@
 -- Laws of eight bytes read as one number: it is 0 exactly when all eight are.
-use mathlib.Core.Path.{◌≡◌, ap, sym, ◌∙◌}
+use mathlib.Core.Path.{◌≡◌, refl, ap, sym, ◌∙◌}
 use mathlib.Core.Bool.{false}
-use mathlib.Core.List.{List}
+use mathlib.Core.List.{List, [], ◌∷◌}
 use mathlib.Core.Logic.{◌↔◌}
-use Prim.Native.Nat.{ℕ, zero, suc, ◌+◌, ◌-◌, ◌*◌, ◌/◌, ◌%◌, ◌≤◌, ◌<◌}
+use Prim.Native.Nat.{ℕ, zero, suc, ◌+◌, ◌-◌, ◌*◌, ◌%◌, ◌≤◌, ◌<◌}
 use native.Mathlib.Omega.{arith}
-use lib.ListN.{length, get_or, drop}
-use lib.Seq.{get_or-drop}
+use lib.ListN.{length, get_or, take, drop, length-drop}
+use lib.Dec.{eqb}
+use borrow.Author.Tests.{eqb-true, eqb-false}
+use Rattle.std.specs.List.{list_all}
+use Rattle.std.specs.Simd.{first_chunks}
+use lib.Seq.{get_or-drop, get_or-take}
 use Rattle.laws.proofs.Cases.{bool_cases, order}
 use Rattle.laws.specs.Lists.{all_zero}
 use Rattle.laws.proofs.Lists.{get_d_all_zero}
@@ -75,6 +79,29 @@ pub padding_eights : (n : ℕ) → (padded_length (words_for n) - 4 * words_for 
 unfolding padded_length
 padding_eights n = omega arith
 
--- and the padding begins at a multiple of 8
-pub padding_start : (n : ℕ) → 8 * (words_for n / 2) ≡ 4 * words_for n
-padding_start n = omega arith
+-- eight bytes are the first eight of any that begin with them
+eight_first : (bytes : List ℕ) → eight_at (take 8 bytes) 0 ≡ eight_at bytes 0
+unfolding word_at
+eight_first bytes =
+    let at : (i : ℕ) → i < 8 → get_or (take 8 bytes) i 0 ≡ get_or bytes i 0 = λ i h. rw get_or-take refl in
+    omega (
+      arith,
+      at 0 (omega arith),
+      at 1 (omega arith),
+      at 2 (omega arith),
+      at 3 (omega arith),
+      at 4 (omega arith),
+      at 5 (omega arith),
+      at 6 (omega arith),
+      at 7 (omega arith),
+    )
+
+-- all of the padding is 0 exactly when each eight bytes are
+pub zero_by_eights : (n : ℕ) (bytes : List ℕ) → length bytes ≡ 8 * n → list_all (λ e. eqb (eight_at e 0) 0) (first_chunks 8 n bytes) ≡ all_zero bytes
+zero_by_eights zero [] h = refl
+zero_by_eights zero (x ∷ bytes) h = absurd (omega arith)
+zero_by_eights (suc n) bytes h =
+    let next : list_all (λ e. eqb (eight_at e 0) 0) (first_chunks 8 n (drop 8 bytes)) ≡ all_zero (drop 8 bytes) = zero_by_eights n (drop 8 bytes) (omega (arith, length-drop 8 bytes)) in
+    bool_cases (eqb (eight_at bytes 0) 0)
+    (λ t. rw (eight_first bytes, t, next) (sym (eight_passed bytes 0 (omega arith) (eqb-true _ _ t))))
+    (λ f. rw (eight_first bytes, f) (sym (eight_found bytes 0 (omega arith) (eqb-false _ _ f))))

@@ -10,7 +10,7 @@ use Rattle.card.specs.Header.{nodes_of_length}
 use Rattle.card_dump.specs.Dump.{word_bytes, card_bytes, padded_length, dump_of, word_at, dump_words, words_for, dump_nodes, fitting_length, read_answer, read_over, write_answer, write_over}
 use Rattle.card_dump.proofs.ByteLaws.{length_card_bytes, get_dump_words}
 use Rattle.card_dump.proofs.AnswerLaws.{Whole, Good, padded_covers, whole_undamaged, room_long, read_whole, read_words, write_sized, write_bytes}
-use Rattle.card_dump.specs.declared.Answer.TheVariants.{Length}
+use Rattle.card_dump.specs.Answer.{Length}
 
 pub length_dump : (card : List ℕ) → length (dump_of card) ≡ padded_length (length card)
 unfolding dump_of

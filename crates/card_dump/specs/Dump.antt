@@ -5,8 +5,8 @@ use Rattle.laws.specs.Cases.{pick}
 use Rattle.laws.specs.Lists.{pad, all_zero}
 use Rattle.card.specs.Layout.{least_nodes, limited}
 use Rattle.card.specs.Header.{card_refusal}
-use Rattle.card_dump.specs.declared.Answer.{Answer}
-use Rattle.card_dump.specs.declared.Answer.TheVariants.{Length, Refused}
+use Rattle.card_dump.specs.Answer.{Answer}
+use Rattle.card_dump.specs.Answer.{Length, Refused}
 
 -- ---- a dump
 

@@ -1,3 +1,5 @@
+-- what reading and writing a dump answer
+pub mod Answer
 -- what a dump is, when one is refused, and what reading and writing one answer and store
 pub mod Dump
 -- the padding is tested "eight bytes at a time, as one 64-bit number proved 0 exactly when all eight are"

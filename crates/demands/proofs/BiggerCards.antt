@@ -13,7 +13,7 @@ use Rattle.card.specs.Layout.{greatest_nodes, program_nodes}
 use Rattle.card.proofs.HeaderLaws.{limited_within, nodes_long, sized_nodes, card_no_length}
 use Rattle.card_dump.specs.Answers.{dump_reply}
 use Rattle.card_dump.specs.Dump.{padded_length, dump_nodes, damaged, read_answer, write_answer}
-use Rattle.card_dump.specs.declared.Answer.TheVariants.{Refused}
+use Rattle.card_dump.specs.Answer.{Refused}
 use Rattle.card_dump.proofs.AnswerLaws.{Whole, undamaged_whole, whole_undamaged, damaged_long, damaged_many, read_damaged}
 use Rattle.call_find.specs.Answers.{found_reply}
 use Rattle.call_find.specs.Find.{find_of}

@@ -27,7 +27,7 @@ use Rattle.card_dump.proofs.ByteLaws.{length_dump_words, get_dump_words, length_
 use Rattle.card_dump.proofs.RoundTrip.{length_dump, round_trip}
 use Rattle.card_dump.specs.Answers.{dump_reply}
 use Rattle.card_dump.specs.Dump.{word_bytes, card_bytes, padded_length, dump_of, word_at, dump_words, words_for, damaged, read_answer, read_over, write_answer, write_over}
-use Rattle.card_dump.specs.declared.Answer.TheVariants.{Length, Refused}
+use Rattle.card_dump.specs.Answer.{Length, Refused}
 use Rattle.laws.proofs.Cases.{bool_cases, order}
 use Rattle.laws.proofs.Lists.{get_d_left, get_d_right, get_d_pad, get_d_all_zero}
 use Rattle.laws.specs.Lists.{all_zero}

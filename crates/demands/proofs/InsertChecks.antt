@@ -34,7 +34,7 @@ use Rattle.walk.specs.Descent.{slot_of}
 use Rattle.walk.specs.declared.Slot.TheVariants.{At}
 use Rattle.card_dump.proofs.AnswerLaws.{undamaged_whole, read_damaged, read_whole, room_long}
 use Rattle.card_dump.specs.Dump.{dump_words, read_answer, words_for, dump_nodes, damaged}
-use Rattle.card_dump.specs.declared.Answer.TheVariants.{Length}
+use Rattle.card_dump.specs.Answer.{Length}
 use Rattle.card_free.specs.NodeSet.{count_true}
 use Rattle.reason.specs.declared.Reason.{Reason}
 use Rattle.reason.specs.declared.Reason.TheVariants.{Refused, NoKey, Held, Slot as EmptySlot, Split}

@@ -16,8 +16,8 @@ use Rattle.card_dump.specs.Dump.{dump_words, words_for, dump_nodes, damaged, fit
 use Rattle.card_dump.proofs.AnswerLaws.{read_sized}
 use Rattle.card_dump.proofs.ByteLaws.{length_dump_words}
 use Rattle.card.proofs.HeaderLaws.{sized_nodes}
-use Rattle.card_dump.specs.declared.Answer.{Answer}
-use Rattle.card_dump.specs.declared.Answer.TheVariants.{Length, Refused as ReadRefused}
+use Rattle.card_dump.specs.Answer.{Answer}
+use Rattle.card_dump.specs.Answer.{Length, Refused as ReadRefused}
 use Rattle.card_free.specs.NodeSet.{count_true}
 use Rattle.list_pairs.specs.Listing.{Listed, refused, listed, list_card, list_dump, laid, lay_pairs, lay_listed}
 use Rattle.list_pairs.specs.Summaries.{summarized, summary_of}

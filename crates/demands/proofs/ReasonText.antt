@@ -7,7 +7,7 @@ use Prim.Native.Nat.{ℕ, ◌≤◌, ◌<◌}
 use native.Mathlib.Omega.{arith}
 use Rattle.card.specs.Layout.{lowest_key}
 use Rattle.card_dump.specs.Dump.{dump_words, read_answer}
-use Rattle.card_dump.specs.declared.Answer.TheVariants.{Length, Refused as ReadRefused}
+use Rattle.card_dump.specs.Answer.{Length, Refused as ReadRefused}
 use Rattle.reason.specs.InsertReason.{reason_of}
 use Rattle.reason.proofs.InsertReasonLaws.{of_refused, dump_refused, dump_read}
 use Rattle.reason.specs.declared.Reason.{Reason}

@@ -7,7 +7,7 @@ use lib.ListN.{length}
 use borrow.Author.Tests.{ne_eqb, eq-eqb}
 use Rattle.card.specs.Header.{nodes_of_length}
 use Rattle.card_dump.specs.Dump.{dump_words, read_answer}
-use Rattle.card_dump.specs.declared.Answer.TheVariants.{Length, Refused as ReadRefused}
+use Rattle.card_dump.specs.Answer.{Length, Refused as ReadRefused}
 use Rattle.card_free.specs.NodeSet.{count_true}
 use Rattle.card_check.specs.Check.{Findings, table_check}
 use Rattle.card_check.specs.Counting.{table_counted}

@@ -15,8 +15,8 @@ use Rattle.state.specs.Begun.{Begun}
 use Rattle.state.specs.Begun.{Idle, Started, Refused}
 use Rattle.walk_next.specs.Successor.{walk_from}
 use Rattle.card_dump.specs.Dump.{dump_words, read_answer}
-use Rattle.card_dump.specs.declared.Answer.{Answer}
-use Rattle.card_dump.specs.declared.Answer.TheVariants.{Length, Refused as ReadRefused}
+use Rattle.card_dump.specs.Answer.{Answer}
+use Rattle.card_dump.specs.Answer.{Length, Refused as ReadRefused}
 
 -- no card has more pairs than 11 for each of its nodes
 abbrev pub most_pairs : ℕ

@@ -15,7 +15,7 @@ use Rattle.call_change.specs.Updates.{landing}
 use Rattle.call_open.specs.Opening.{open_of}
 use Rattle.call_repair.specs.Repairing.{opened_card}
 use Rattle.card_dump.specs.Dump.{dump_words, read_answer}
-use Rattle.card_dump.specs.declared.Answer.TheVariants.{Length, Refused as ReadRefused}
+use Rattle.card_dump.specs.Answer.{Length, Refused as ReadRefused}
 use Rattle.reason.specs.InsertReason.{reason_landed, reason_on, reason_begun, reason_of, reason_read, reason_in_dump}
 use Rattle.reason.specs.declared.Reason.TheVariants.{Refused, NoKey}
 

@@ -13,8 +13,8 @@ use Rattle.call_change.specs.Updates.{landing, insert_reason, split_need, held, 
 use Rattle.call_open.specs.Opening.{open_of}
 use Rattle.call_repair.specs.Repairing.{opened_card}
 use Rattle.card_dump.specs.Dump.{dump_words, read_answer}
-use Rattle.card_dump.specs.declared.Answer.{Answer}
-use Rattle.card_dump.specs.declared.Answer.TheVariants.{Length, Refused as ReadRefused}
+use Rattle.card_dump.specs.Answer.{Answer}
+use Rattle.card_dump.specs.Answer.{Length, Refused as ReadRefused}
 use Rattle.reason.specs.declared.Reason.{Reason}
 use Rattle.reason.specs.declared.Reason.TheVariants.{Refused, NoKey, Held, Slot, Split}
 
