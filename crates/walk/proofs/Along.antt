@@ -11,7 +11,7 @@ use lib.Dec.{eqb}
 use Rattle.card.specs.Layout.{depth_limit, root_place, node_at, children, run_below}
 use Rattle.walk.specs.Descent.{look_at, root_position, child_position, Way, nowhere, past, way_from, way, run_over, is_fault, first_fault, ended, to_list, end_of, reached_at}
 use Rattle.walk.specs.Descent.{leaf_of, depth_of, beside_by}
-use Rattle.walk.proofs.DescentLaws.{Inside, leaf_inside, way_nowhere, way_leaf, way_childless, way_too_deep, way_down, reached, same_reached, leaf_beside, beside_told}
+use Rattle.walk.proofs.DescentLaws.{Inside, leaf_inside, way_nowhere, way_leaf, way_childless, way_too_deep, way_down, leaf_reached, same_reached, leaf_beside, beside_told}
 use Rattle.laws.specs.Cases.{pick}
 use Rattle.laws.proofs.Cases.{bool_cases, and_true, impossible}
 use Rattle.walk.specs.declared.Position.{Position}
@@ -129,11 +129,11 @@ run_over_le card run (p ∷ ps) =
 pub way_inside : (card : List ℕ) (n key levels : ℕ) (p q : Position) → (way_from card n key levels p).leaf ≡ some q → Inside n q.node
 way_inside card n key levels p q e = leaf_inside card n q.node ((along card n (λ x. Unit {0}) key (λ x h l s. tt) levels p tt).leaf q e).1
 
-pub reached_inside : (card : List ℕ) (n key levels : ℕ) (p : Position) (m depth : ℕ) → leaf_of (way_from card n key levels p) ≡ reached m depth → Inside n m
+pub reached_inside : (card : List ℕ) (n key levels : ℕ) (p : Position) (m depth : ℕ) → leaf_of (way_from card n key levels p) ≡ leaf_reached m depth → Inside n m
 unfolding leaf_of reached_at
 reached_inside card n key levels p m depth e = go (way_from card n key levels p).leaf (λ q h. way_inside card n key levels p q h) e
   where
-    go : (l : Maybe Position) → ((q : Position) → l ≡ some q → Inside n q.node) → reached_at (length (way_from card n key levels p).inner) l ≡ reached m depth → Inside n m
+    go : (l : Maybe Position) → ((q : Position) → l ≡ some q → Inside n q.node) → reached_at (length (way_from card n key levels p).inner) l ≡ leaf_reached m depth → Inside n m
     go none h z = impossible (cc)
     go (some q) h z = rw (same_reached _ _ _ _ z).0 at (h q refl)
 

@@ -355,10 +355,10 @@ onward_deeper card n key depth q l h =
 -- ---- the leaf, read off the way
 
 -- a leaf that is reached, by its number and what stands above it
-abbrev pub reached : ℕ → ℕ → Option Reached
-reached m depth = Some (record { node = m; depth = depth })
+abbrev pub leaf_reached : ℕ → ℕ → Option Reached
+leaf_reached m depth = Some (record { node = m; depth = depth })
 
-pub same_reached : (m depth k other : ℕ) → reached m depth ≡ reached k other → (m ≡ k) × (depth ≡ other)
+pub same_reached : (m depth k other : ℕ) → leaf_reached m depth ≡ leaf_reached k other → (m ≡ k) × (depth ≡ other)
 same_reached m depth k other e = let z = same_Some _ _ e in (ap (λ (r : Reached). r.node) z, ap (λ (r : Reached). r.depth) z)
 
 -- below so many internal nodes more
@@ -369,7 +369,7 @@ deeper d (Some r) = Some (record { node = r.node; depth = d + r.depth })
 pub deeper_none : (r : Option Reached) → r ≡ deeper 0 r
 unfolding deeper
 deeper_none None = refl
-deeper_none (Some r) = ap (reached r.node) (omega arith)
+deeper_none (Some r) = ap (leaf_reached r.node) (omega arith)
 
 leaf_past : (p : Position) (w : Way) → leaf_of (past p w) ≡ deeper 1 (leaf_of w)
 unfolding leaf_of past reached_at deeper
@@ -377,7 +377,7 @@ leaf_past p w = go (length w.inner) w.leaf
   where
     go : (d : ℕ) (l : Maybe Position) → reached_at (suc d) l ≡ deeper 1 (reached_at d l)
     go d none = refl
-    go d (some q) = ap (reached q.node) (omega arith)
+    go d (some q) = ap (leaf_reached q.node) (omega arith)
 
 -- past a node
 pub leaf_on : (card : List ℕ) (n key : ℕ) (p q : Position) (depth : ℕ) → depth ≤ depth_limit → (depth ≡ depth_limit → ⊥)
@@ -389,7 +389,7 @@ leaf_on card n key p q depth l h =
   where
     deeper_twice : (r : Option Reached) → deeper depth (deeper 1 r) ≡ deeper (depth + 1) r
     deeper_twice None = refl
-    deeper_twice (Some r) = ap (reached r.node) (omega arith)
+    deeper_twice (Some r) = ap (leaf_reached r.node) (omega arith)
 
 -- ---- the run above the leaf, read off the way
 
@@ -464,14 +464,14 @@ module _ (card : List ℕ) (key beside : ℕ) where
       go (some p) q = impossible (cc)
 
   pub beside_told : (w : Way) (m e depth : ℕ) → beside_by card key beside w ≡ leaf_beside m e depth
-      → (leaf_of w ≡ reached m depth) × (beside_all card key beside w.inner ≡ e)
+      → (leaf_of w ≡ leaf_reached m depth) × (beside_all card key beside w.inner ≡ e)
   unfolding beside_by beside_at leaf_of reached_at
   beside_told w m e depth q = go w.leaf q
     where
       go : (o : Maybe Position) → beside_at (beside_all card key beside w.inner) (length w.inner) o ≡ leaf_beside m e depth
-          → (reached_at (length w.inner) o ≡ reached m depth) × (beside_all card key beside w.inner ≡ e)
+          → (reached_at (length w.inner) o ≡ leaf_reached m depth) × (beside_all card key beside w.inner ≡ e)
       go none r = impossible (cc)
-      go (some p) r = let z = same_beside _ _ _ _ _ _ r in (ap₂ reached z.0 z.2, z.1)
+      go (some p) r = let z = same_beside _ _ _ _ _ _ r in (ap₂ leaf_reached z.0 z.2, z.1)
 
 -- ---- faults
 
@@ -574,10 +574,10 @@ pub fault_at : (card : List ℕ) (n key : ℕ) (seeks : Bool) (levels : ℕ) (p 
 fault_at card n key seeks levels p e f = ap (end_of card seeks) (way_inner card n key p levels e) ∙ end_start card seeks _ ∙ end_fault card seeks 0 p _ f
 
 -- where an update lands, by its three numbers
-abbrev pub landed : ℕ → ℕ → ℕ → Option Landing
-landed m link run = Some (record { node = m; link = link; run = run })
+abbrev pub landing_at : ℕ → ℕ → ℕ → Option Landing
+landing_at m link run = Some (record { node = m; link = link; run = run })
 
-pub same_landing : (m link run k x other : ℕ) → landed m link run ≡ landed k x other → (m ≡ k) × (link ≡ x) × (run ≡ other)
+pub same_landing : (m link run k x other : ℕ) → landing_at m link run ≡ landing_at k x other → (m ≡ k) × (link ≡ x) × (run ≡ other)
 same_landing m link run k x other e = let z = same_Some _ _ e in (ap (λ (l : Landing). l.node) z, ap (λ (l : Landing). l.link) z, ap (λ (l : Landing). l.run) z)
 
 -- where no fault is sought the way ends at its leaf
@@ -608,10 +608,10 @@ module _ (card : List ℕ) (w : Way) where
       go (some q) f = let z : q ≡ p = cc in ap some z
 
   -- and its depth is the leaf's
-  pub unsought_reached : (p : Position) (depth : ℕ) → end_of card false w ≡ EndLeaf p depth → leaf_of w ≡ reached p.node depth
+  pub unsought_reached : (p : Position) (depth : ℕ) → end_of card false w ≡ EndLeaf p depth → leaf_of w ≡ leaf_reached p.node depth
   unfolding ended leaf_of reached_at
   unsought_reached p depth e = go w.leaf (sym (end_unsought card w) ∙ e)
     where
-      go : (l : Maybe Position) → ended (length w.inner) l ≡ EndLeaf p depth → reached_at (length w.inner) l ≡ reached p.node depth
+      go : (l : Maybe Position) → ended (length w.inner) l ≡ EndLeaf p depth → reached_at (length w.inner) l ≡ leaf_reached p.node depth
       go none f = impossible (cc)
-      go (some q) f = let z : q ≡ p = cc in ap₂ (λ (x : Position) (d : ℕ). reached x.node d) z (cc)
+      go (some q) f = let z : q ≡ p = cc in ap₂ (λ (x : Position) (d : ℕ). leaf_reached x.node d) z (cc)

@@ -24,7 +24,7 @@ use Rattle.walk_next.specs.Successor.{carried, next_depth}
 use Rattle.walk_next.specs.declared.Successor.{Successor}
 use Rattle.walk_next.specs.declared.Successor.TheVariants.{Pair, Nothing, Refused}
 use Rattle.std.specs.Prelude.{Option, Some, None, IfSome, is_some, unwrap_or}
-use Rattle.walk.proofs.DescentLaws.{reached}
+use Rattle.walk.proofs.DescentLaws.{leaf_reached}
 use Rattle.walk.specs.declared.Reached.{Reached}
 
 -- ---- a slot more
@@ -165,7 +165,7 @@ module _ (card : List ℕ) (after : ℕ) (w : Way) where
   unfolding next_in_leaf
   in_no_leaf e = ap (next_in_leaf card after) e
 
-  pub in_leaf : (m depth : ℕ) → leaf_of w ≡ reached m depth → (o : Maybe (ℕ × ℕ)) → least_above after (leaf_pairs (node_at card m)) ≡ o
+  pub in_leaf : (m depth : ℕ) → leaf_of w ≡ leaf_reached m depth → (o : Maybe (ℕ × ℕ)) → least_above after (leaf_pairs (node_at card m)) ≡ o
       → next_in_leaf card after (leaf_of w) ≡ found o
   unfolding next_in_leaf
   in_leaf m depth e o q = ap (next_in_leaf card after) e ∙ ap found q
@@ -275,7 +275,7 @@ next_depth_le greatest line card after = carried_le _ depth_limit (next_of great
 -- what is told of it in the first round and kept in the second
 pub own_depth : (card : List ℕ) (n after root key from depth : ℕ) (own : Option ℕ)
     → (is_some own ≡ false → (from ≡ root) × (key ≡ after)) → IfSome own (λ (d : ℕ). d ≡ depth_of (leaf_of (way_from card n after depth_limit (root_position root))))
-    → (m : ℕ) → leaf_of (way_from card n key depth_limit (root_position from)) ≡ reached m depth
+    → (m : ℕ) → leaf_of (way_from card n key depth_limit (root_position from)) ≡ leaf_reached m depth
     → unwrap_or own depth ≡ depth_of (leaf_of (way_from card n after depth_limit (root_position root)))
 unfolding depth_of
 own_depth card n after root key from depth None at kept m e =
