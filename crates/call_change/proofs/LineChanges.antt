@@ -8,12 +8,10 @@ use Rattle.card.specs.Layout.{depth_limit}
 use Rattle.card.specs.Lines.{root_of, seen}
 use Rattle.card.proofs.LineLaws.{seen_node}
 use Rattle.walk.specs.Descent.{root_position, seek, Way, way_from, run_over, end_of, landed_at, landing_of}
-use Rattle.walk.proofs.DescentLaws.{unsought_refused, unsought_leaf}
+use Rattle.walk.proofs.DescentLaws.{unsought_none, unsought_leaf}
 use Rattle.walk.specs.declared.Position.{Position}
-use Rattle.walk.specs.declared.End.TheVariants.{Refused as EndRefused, Leaf as EndLeaf}
+use Rattle.walk.specs.declared.End.TheVariants.{Leaf as EndLeaf}
 use Rattle.walk.proofs.LineWays.{way_seen, run_seen}
-use Rattle.walk.specs.declared.Landing.{Landing}
-use Rattle.walk.specs.declared.Landing.TheVariants.{Refused as NoLanding, Leaf as LandingAt}
 use Rattle.change_decide.specs.Decide.{on_search}
 use Rattle.change_decide.specs.declared.Decision.{Decision}
 use Rattle.change_decide.proofs.LineDecisions.{repair_seen}
@@ -27,9 +25,12 @@ use Rattle.call_change.specs.Updates.{landing, next_change}
 use Rattle.call_change.specs.Decided.{decided_in, insert_at, delete_at, decided, laid_first}
 use Rattle.call_change.specs.declared.First.{First}
 use Rattle.call_change.proofs.Decided.{next_decided}
+use Rattle.std.specs.Prelude.{Option, Some, None}
+use Rattle.walk.proofs.DescentLaws.{landing_at}
+use Rattle.walk.specs.declared.Landing.{Landing}
 
 -- where a key leads below a root
-abbrev pub landing_below : List ℕ → ℕ → ℕ → ℕ → Landing
+abbrev pub landing_below : List ℕ → ℕ → ℕ → ℕ → Option Landing
 landing_below card n root key = landing_of card (way_from card n key depth_limit (root_position root))
 
 -- what the next step of a task decides below a root
@@ -49,19 +50,19 @@ module _ (line : ℕ) (card : List ℕ) (n : ℕ) where
   abbrev below : ℕ → Way
   below key = way_from card n key depth_limit (root_position (get_or card (root_of line) 0))
 
-  pub land_refused : (key : ℕ) → end_of card false (below key) ≡ EndRefused → landing (seen line card) n key ≡ NoLanding
+  pub land_none : (key : ℕ) → ((p : Position) (depth : ℕ) → end_of card false (below key) ≡ EndLeaf p depth → ⊥) → landing (seen line card) n key ≡ None
   unfolding landing_of landed_at
-  land_refused key e = landing_seen key ∙ ap (landed_at _) (unsought_refused card (below key) e)
+  land_none key h = landing_seen key ∙ ap (landed_at _) (unsought_none card (below key) h)
 
   pub land_leaf : (key : ℕ) (p : Position) (depth : ℕ) → end_of card false (below key) ≡ EndLeaf p depth
-      → landing (seen line card) n key ≡ LandingAt p.node p.link (run_over card 0 (below key).inner)
+      → landing (seen line card) n key ≡ landing_at p.node p.link (run_over card 0 (below key).inner)
   unfolding landing_of landed_at
   land_leaf key p depth e = landing_seen key ∙ ap (landed_at _) (unsought_leaf card (below key) p depth e)
 
-  in_leaf_seen : (doing : Doing) (in_leaf : ℕ → ℕ → List ℕ → First) (l : Landing) → decided_in (seen line card) doing in_leaf l ≡ decided_in card doing in_leaf l
+  in_leaf_seen : (doing : Doing) (in_leaf : ℕ → ℕ → List ℕ → First) (l : Option Landing) → decided_in (seen line card) doing in_leaf l ≡ decided_in card doing in_leaf l
   unfolding decided_in
-  in_leaf_seen doing in_leaf NoLanding = refl
-  in_leaf_seen doing in_leaf (LandingAt m link run) = ap (in_leaf m link) (seen_node line card m)
+  in_leaf_seen doing in_leaf None = refl
+  in_leaf_seen doing in_leaf (Some l) = ap (in_leaf l.node l.link) (seen_node line card l.node)
 
   pub decided_seen : (doing : Doing) (task : Task) → decided (seen line card) n doing task ≡ decided_below card n (get_or card (root_of line) 0) doing task
   unfolding decided

@@ -1,16 +1,12 @@
 -- Document 01, "The changes", insert and delete: what an update decides in the leaf that its key leads to. `lay_out` makes the change of
 -- it, so that what is decided says nothing of free nodes (`next_decided`, proofs/Decided).
-use Rattle.std.specs.Prelude.{Bool, List, ℕ, ◌+◌, get_or}
+use Rattle.std.specs.Prelude.{Bool, List, ℕ, ◌+◌, get_or, Option, Some, None}
 use Rattle.card.specs.Layout.{node_at}
 use Rattle.change_layout.specs.LayOut.{lay_out}
 use Rattle.change_decide.specs.Decide.{decided_repair}
 use Rattle.change_decide.specs.declared.Decision.{Decision}
 use Rattle.change_decide.specs.declared.Decision.TheVariants.{Refused, Balanced, PutPair, ClearKey, SplitLeaf}
 use Rattle.walk.specs.Descent.{slot_of}
-use Rattle.walk.specs.declared.Slot.{Slot}
-use Rattle.walk.specs.declared.Slot.TheVariants.{At, Absent as NoSlot}
-use Rattle.walk.specs.declared.Landing.{Landing}
-use Rattle.walk.specs.declared.Landing.TheVariants.{Refused as NoLanding, Leaf as LandingAt}
 use Rattle.state.specs.declared.Doing.{Doing}
 use Rattle.state.specs.declared.Doing.TheVariants.{Inserting, Deleting}
 use Rattle.state.specs.declared.Phase.TheVariants.{InHand}
@@ -21,6 +17,7 @@ use Rattle.state.specs.declared.Answer.{Answer}
 use Rattle.state.specs.declared.Answer.TheVariants.{Absent, Value}
 use Rattle.call_change.specs.Updates.{landing, Reason, held, slot, full, insert_reason, FirstChange}
 use Rattle.call_change.specs.declared.First.{First}
+use Rattle.walk.specs.declared.Landing.{Landing}
 
 -- the pair goes into an empty slot of leaf m, or the leaf is split; nothing where the key is held
 unfoldable pub placed : ℕ → ℕ → ℕ → ℕ → Reason → Decision
@@ -38,15 +35,15 @@ abbrev pub insert_decided : ℕ → ℕ → ℕ → ℕ → Reason → First
 insert_decided key value m link reason = record { doing = Inserting key value InHand; answer = insert_answer reason; decision = placed key value m link reason }
 
 -- "Delete: key word to 0, answers the value; absent and no store if not held."
-unfoldable pub delete_decided : ℕ → ℕ → List ℕ → Slot → First
-delete_decided key m leaf (At i) =
+unfoldable pub delete_decided : ℕ → ℕ → List ℕ → Option ℕ → First
+delete_decided key m leaf (Some i) =
     record { doing = Deleting key InHand (get_or leaf (12 + i) 0); answer = Value (get_or leaf (12 + i) 0); decision = ClearKey m i }
-delete_decided key m leaf NoSlot = record { doing = Deleting key InHand 0; answer = Absent; decision = Balanced }
+delete_decided key m leaf None = record { doing = Deleting key InHand 0; answer = Absent; decision = Balanced }
 
 -- in the leaf that the key leads to; where the way down is refused the step is refused too
-unfoldable pub decided_in : List ℕ → Doing → (ℕ → ℕ → List ℕ → First) → Landing → First
-decided_in card doing in_leaf NoLanding = record { doing = doing; answer = Absent; decision = Refused }
-decided_in card doing in_leaf (LandingAt m link run) = in_leaf m link (node_at card m)
+unfoldable pub decided_in : List ℕ → Doing → (ℕ → ℕ → List ℕ → First) → Option Landing → First
+decided_in card doing in_leaf None = record { doing = doing; answer = Absent; decision = Refused }
+decided_in card doing in_leaf (Some l) = in_leaf l.node l.link (node_at card l.node)
 
 abbrev pub insert_at : ℕ → ℕ → ℕ → ℕ → List ℕ → First
 insert_at key value m link leaf = insert_decided key value m link (insert_reason leaf key)

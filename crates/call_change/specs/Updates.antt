@@ -1,12 +1,8 @@
 -- Document 01, "The changes", insert and delete: what an update makes of the leaf that its key leads to.
-use Rattle.std.specs.Prelude.{Bool, true, not, List, [], ◌∷◌, ℕ, ◌+◌, get_or, ltb}
+use Rattle.std.specs.Prelude.{Bool, true, not, List, [], ◌∷◌, ℕ, ◌+◌, get_or, ltb, Option, Some, None}
 use Rattle.laws.specs.Sorting.{sort}
 use Rattle.card.specs.Layout.{place, node_at, leaf_pairs}
 use Rattle.walk.specs.Descent.{slot_of, way, landing_of}
-use Rattle.walk.specs.declared.Slot.{Slot}
-use Rattle.walk.specs.declared.Slot.TheVariants.{At, Absent as NoSlot}
-use Rattle.walk.specs.declared.Landing.{Landing}
-use Rattle.walk.specs.declared.Landing.TheVariants.{Refused as NoLanding, Leaf as LandingAt}
 use Rattle.change_plan.specs.Change.{split_leaf}
 use Rattle.change_plan.specs.Planning.{Preparation, refused, balanced, prepared, giving, first, second, third}
 use Rattle.change_layout.specs.Mending.{next_repair}
@@ -16,9 +12,10 @@ use Rattle.state.specs.declared.Phase.TheVariants.{InHand}
 use Rattle.state.specs.declared.Task.{Task}
 use Rattle.state.specs.declared.Task.TheVariants.{PutIn, TakeOut, Repair}
 use Rattle.state.specs.Answer.{Answer, Absent, Value, given}
+use Rattle.walk.specs.declared.Landing.{Landing}
 
 -- the leaf that a key leads to
-unfoldable pub landing : List ℕ → ℕ → ℕ → Landing
+unfoldable pub landing : List ℕ → ℕ → ℕ → Option Landing
 landing card n key = landing_of card (way card n key)
 
 -- What an insert finds in its leaf: the key with its value, an empty slot ("the lowest empty slot"), or neither.
@@ -27,13 +24,13 @@ pub data Reason : Type 0 where
   slot : ℕ → Reason
   full : Reason
 
-unfoldable pub empty_reason : Slot → Reason
-empty_reason (At i) = slot i
-empty_reason NoSlot = full
+unfoldable pub empty_reason : Option ℕ → Reason
+empty_reason (Some i) = slot i
+empty_reason None = full
 
-unfoldable pub reason_in : List ℕ → Slot → Reason
-reason_in node (At i) = held (get_or node (12 + i) 0)
-reason_in node NoSlot = empty_reason (slot_of node 0)
+unfoldable pub reason_in : List ℕ → Option ℕ → Reason
+reason_in node (Some i) = held (get_or node (12 + i) 0)
+reason_in node None = empty_reason (slot_of node 0)
 
 unfoldable pub insert_reason : List ℕ → ℕ → Reason
 insert_reason node key = reason_in node (slot_of node key)
@@ -53,10 +50,10 @@ insert_change key value free last m link node full =
     record { doing = Inserting key value InHand; final = Absent; preparation = giving 3 free last (λ ms. split_leaf m link (sort ((key, value) ∷ leaf_pairs node)) (first ms) (second ms) (third ms)) }
 
 -- "Delete: key word to 0, answers the value; absent and no store if not held."
-unfoldable pub delete_change : ℕ → List Bool → ℕ → ℕ → List ℕ → Slot → FirstChange
-delete_change key free last m node (At i) =
+unfoldable pub delete_change : ℕ → List Bool → ℕ → ℕ → List ℕ → Option ℕ → FirstChange
+delete_change key free last m node (Some i) =
     record { doing = Deleting key InHand (get_or node (12 + i) 0); final = Value (get_or node (12 + i) 0); preparation = prepared ((place m (1 + i), 0) ∷ []) free last [] }
-delete_change key free last m node NoSlot = record { doing = Deleting key InHand 0; final = Absent; preparation = balanced }
+delete_change key free last m node None = record { doing = Deleting key InHand 0; final = Absent; preparation = balanced }
 
 -- what the two make of the leaf that their key leads to
 abbrev pub insert_in : ℕ → ℕ → List Bool → ℕ → ℕ → ℕ → List ℕ → FirstChange
@@ -70,9 +67,9 @@ unfoldable pub no_way : Doing → FirstChange
 no_way doing = record { doing = doing; final = Absent; preparation = refused }
 
 -- the first change of an update, in that leaf
-unfoldable pub in_leaf : List ℕ → Doing → (ℕ → ℕ → List ℕ → FirstChange) → Landing → FirstChange
-in_leaf card doing change NoLanding = no_way doing
-in_leaf card doing change (LandingAt m link run) = change m link (node_at card m)
+unfoldable pub in_leaf : List ℕ → Doing → (ℕ → ℕ → List ℕ → FirstChange) → Option Landing → FirstChange
+in_leaf card doing change None = no_way doing
+in_leaf card doing change (Some l) = change l.node l.link (node_at card l.node)
 
 -- the next change of a task, for a state that is doing this; "Repairs go on until balanced", and then the answer is given
 unfoldable pub next_change : List ℕ → ℕ → List Bool → ℕ → Doing → Task → FirstChange
@@ -90,6 +87,6 @@ room_for room run (held v) = true
 room_for room run (slot i) = true
 room_for room run full = not (ltb room (split_need run))
 
-unfoldable pub start_room : List ℕ → ℕ → ℕ → Landing → Bool
-start_room card key room NoLanding = true
-start_room card key room (LandingAt m link run) = room_for room run (insert_reason (node_at card m) key)
+unfoldable pub start_room : List ℕ → ℕ → ℕ → Option Landing → Bool
+start_room card key room None = true
+start_room card key room (Some l) = room_for room l.run (insert_reason (node_at card l.node) key)

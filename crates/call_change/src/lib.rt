@@ -15,7 +15,7 @@ ghost use Rattle.call_change.specs.Results.{Arrives};
 
 use change_decide::{Decision, next_repair};
 use state::{Answer, Doing, Phase, Task};
-use walk::{End, Slot};
+use walk::End;
 
 // "A splitting insert needs j + 5 free nodes": those that it needs beyond j. The only place in code where the number stands.
 pub const SPLIT_NEED: usize = 5;
@@ -29,18 +29,19 @@ pub struct First {
 }
 
 // The pair goes into "the lowest empty slot", or "Leaf full: the 12 pairs go 6 and 6 into two leaves".
+#[tactic(auto, unfolding(crate::specs::Decided::placed, crate::specs::Updates::empty_reason))]
 fn place_new(leaf: &[u32], node: usize, link: usize, key: u32, value: u32) -> Decision
     requires { length leaf.now ≡ 24 }
     ensures { result ≡ placed key value node link (empty_reason (slot_of leaf.now 0)) }
 {
     match walk::find_slot(leaf, 0) {
-        Slot::At(slot) => Decision::PutPair {
+        Some(slot) => Decision::PutPair {
             node,
             slot,
             key,
             value,
         },
-        Slot::Absent => Decision::SplitLeaf {
+        None => Decision::SplitLeaf {
             node,
             link,
             key,
@@ -50,6 +51,7 @@ fn place_new(leaf: &[u32], node: usize, link: usize, key: u32, value: u32) -> De
 }
 
 // "Insert, key held: answers the held value, no store."
+#[tactic(auto, using(walk::proofs::DescentLaws::slot_below, crate::proofs::UpdateLaws::answer_empty), unfolding(crate::specs::Updates::insert_reason, crate::specs::Updates::reason_in, crate::specs::Decided::insert_answer, crate::specs::Decided::placed))]
 fn insert_in(leaf: &[u32], node: usize, link: usize, key: u32, value: u32) -> First
     requires { length leaf.now ≡ 24 }
     ensures { result ≡ insert_decided key value node link (insert_reason leaf.now key) }
@@ -60,12 +62,12 @@ fn insert_in(leaf: &[u32], node: usize, link: usize, key: u32, value: u32) -> Fi
         phase: Phase::InHand,
     };
     match walk::find_slot(leaf, key) {
-        Slot::At(i) => First {
+        Some(i) => First {
             doing,
             answer: Answer::Value(leaf[card::VALUES + i]),
             decision: Decision::Balanced,
         },
-        Slot::Absent => First {
+        None => First {
             doing,
             answer: Answer::Absent,
             decision: place_new(leaf, node, link, key, value),
@@ -74,12 +76,13 @@ fn insert_in(leaf: &[u32], node: usize, link: usize, key: u32, value: u32) -> Fi
 }
 
 // "Delete: key word to 0, answers the value; absent and no store if not held."
+#[tactic(auto, using(walk::proofs::DescentLaws::slot_below), unfolding(crate::specs::Decided::delete_decided))]
 fn delete_in(leaf: &[u32], node: usize, key: u32) -> First
     requires { length leaf.now ≡ 24 }
     ensures { result ≡ delete_decided key node leaf.now (slot_of leaf.now key) }
 {
     match walk::find_slot(leaf, key) {
-        Slot::At(slot) => {
+        Some(slot) => {
             let value = leaf[card::VALUES + slot];
             First {
                 doing: Doing::Deleting {
@@ -91,7 +94,7 @@ fn delete_in(leaf: &[u32], node: usize, key: u32) -> First
                 decision: Decision::ClearKey { node, slot },
             }
         }
-        Slot::Absent => First {
+        None => First {
             doing: Doing::Deleting {
                 key,
                 phase: Phase::InHand,
@@ -103,26 +106,26 @@ fn delete_in(leaf: &[u32], node: usize, key: u32) -> First
     }
 }
 
-// Where the way of an update's key ends: refusal 9, or its leaf and the word that links to it.
+// Where the way of an update's key ends: its leaf and the word that links to it.
 #[derive(Clone, Copy)]
-pub enum Arrival {
-    Refused,
-    Leaf { node: usize, link: usize },
+pub struct Arrival {
+    pub node: usize,
+    pub link: usize,
 }
 
-// The leaf that an update's key leads to in a line's table. The walk is asked for no violation, so it stops at none.
-fn arrive(card: &[u32], n: usize, line: u32, key: u32) -> Arrival
+// The leaf that an update's key leads to in a line's table; none is refusal 9. The walk is asked for no violation, so it stops at none.
+fn arrive(card: &[u32], n: usize, line: u32, key: u32) -> Option<Arrival>
     requires { Sized greatest_nodes (length card.now) n × IsLine line }
     ensures { Arrives result (landing (seen line card.now) n key) }
 {
-    match walk::descend(card, n, key, card::root_of(card, line), false) {
-        End::Refused => Arrival::Refused,
-        End::Fault(_) => Arrival::Refused,
-        End::Leaf { position, depth: _ } => Arrival::Leaf {
-            node: position.node,
-            link: position.link,
-        },
-    }
+    let End::Leaf { position, .. } = walk::descend(card, n, key, card::root_of(card, line), false)
+    else {
+        return None;
+    };
+    Some(Arrival {
+        node: position.node,
+        link: position.link,
+    })
 }
 
 // The first change of an insert, in the leaf that its key leads to; "on the way down": refused, the step is refused too.
@@ -130,16 +133,20 @@ fn put_in(card: &[u32], n: usize, line: u32, doing: Doing, key: u32, value: u32)
     requires { Sized greatest_nodes (length card.now) n × IsLine line }
     ensures { result ≡ decided (seen line card.now) n doing (PutIn key value) }
 {
-    match arrive(card, n, line, key) {
-        Arrival::Refused => First {
+    let Some(leaf) = arrive(card, n, line, key) else {
+        return First {
             doing,
             answer: Answer::Absent,
             decision: Decision::Refused,
-        },
-        Arrival::Leaf { node, link } => {
-            insert_in(card::node_at(card, node), node, link, key, value)
-        }
-    }
+        };
+    };
+    insert_in(
+        card::node_at(card, leaf.node),
+        leaf.node,
+        leaf.link,
+        key,
+        value,
+    )
 }
 
 // The first change of a delete, in the leaf that its key leads to.
@@ -147,14 +154,14 @@ fn take_out(card: &[u32], n: usize, line: u32, doing: Doing, key: u32) -> First
     requires { Sized greatest_nodes (length card.now) n × IsLine line }
     ensures { result ≡ decided (seen line card.now) n doing (TakeOut key) }
 {
-    match arrive(card, n, line, key) {
-        Arrival::Refused => First {
+    let Some(leaf) = arrive(card, n, line, key) else {
+        return First {
             doing,
             answer: Answer::Absent,
             decision: Decision::Refused,
-        },
-        Arrival::Leaf { node, link: _ } => delete_in(card::node_at(card, node), node, key),
-    }
+        };
+    };
+    delete_in(card::node_at(card, leaf.node), leaf.node, key)
 }
 
 // What the next step of a task decides in a line's table, for a state that is doing this. "Repairs go on until balanced", and then the answer is given.

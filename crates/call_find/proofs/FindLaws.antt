@@ -15,15 +15,15 @@ use Rattle.card.proofs.LineLaws.{seen_node, seen_accepted, line_one}
 use Rattle.walk.specs.Descent.{root_position, Way, way_from, way, leaf_of, depth_of}
 use Rattle.walk.proofs.Along.{way_depth_le}
 use Rattle.walk.proofs.LineWays.{way_seen}
-use Rattle.walk.specs.declared.Reached.{Reached}
-use Rattle.walk.specs.declared.Reached.TheVariants.{Refused as NotReached, Leaf as ReachedLeaf}
 use Rattle.call_find.specs.Find.{found_at, find_in, find_of, depth_in, find_depth}
 use Rattle.call_find.specs.declared.Found.TheVariants.{Refused as FoundRefused}
+use Rattle.std.specs.Prelude.{Option, Some, None}
+use Rattle.walk.specs.declared.Reached.{Reached}
 
-found_seen : (line : ℕ) (card : List ℕ) (key : ℕ) (r : Reached) → found_at (seen line card) key r ≡ found_at card key r
+found_seen : (line : ℕ) (card : List ℕ) (key : ℕ) (r : Option Reached) → found_at (seen line card) key r ≡ found_at card key r
 unfolding found_at
-found_seen line card key NotReached = refl
-found_seen line card key (ReachedLeaf m depth) = rw (seen_node line card m)
+found_seen line card key None = refl
+found_seen line card key (Some r) = rw (seen_node line card r.node)
 
 module _ (greatest line : ℕ) (card : List ℕ) (key : ℕ) where
   -- the way of the key below the line's root

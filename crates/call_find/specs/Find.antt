@@ -1,26 +1,23 @@
 -- Document 01: "A find is one call on the card alone; it may come between steps and answers by the map at that moment."
-use Rattle.std.specs.Prelude.{List, ℕ, ◌+◌, length, get_or, eqb}
+use Rattle.std.specs.Prelude.{List, ℕ, ◌+◌, length, get_or, eqb, Option, Some, None}
 use Rattle.laws.specs.Cases.{pick}
 use Rattle.card.specs.Layout.{node_at}
 use Rattle.card.specs.Lines.{has_line, seen}
 use Rattle.card.specs.Header.{nodes_of_length, card_refusal}
 use Rattle.walk.specs.Descent.{slot_of, way, leaf_of, depth_of}
-use Rattle.walk.specs.declared.Slot.{Slot}
-use Rattle.walk.specs.declared.Slot.TheVariants.{At, Absent as NoSlot}
-use Rattle.walk.specs.declared.Reached.{Reached}
-use Rattle.walk.specs.declared.Reached.TheVariants.{Refused as NotReached, Leaf as ReachedLeaf}
 use Rattle.call_find.specs.declared.Found.{Found}
 use Rattle.call_find.specs.declared.Found.TheVariants.{Value as FoundValue, Absent as FoundAbsent, Refused as FoundRefused}
+use Rattle.walk.specs.declared.Reached.{Reached}
 
 -- in a leaf: the value beside "the first slot whose key word equals the key"
-unfoldable pub found_in : List ℕ → Slot → Found
-found_in node (At i) = FoundValue (get_or node (12 + i) 0)
-found_in node NoSlot = FoundAbsent
+unfoldable pub found_in : List ℕ → Option ℕ → Found
+found_in node (Some i) = FoundValue (get_or node (12 + i) 0)
+found_in node None = FoundAbsent
 
 -- "9: on the way down"
-unfoldable pub found_at : List ℕ → ℕ → Reached → Found
-found_at card key NotReached = FoundRefused 9
-found_at card key (ReachedLeaf m depth) = found_in (node_at card m) (slot_of (node_at card m) key)
+unfoldable pub found_at : List ℕ → ℕ → Option Reached → Found
+found_at card key None = FoundRefused 9
+found_at card key (Some r) = found_in (node_at card r.node) (slot_of (node_at card r.node) key)
 
 -- "6: key 0", on the table of one line
 unfoldable pub find_in : List ℕ → ℕ → ℕ → Found

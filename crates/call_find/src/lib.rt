@@ -8,8 +8,6 @@ ghost use Rattle.walk.specs.Descent.{slot_of, root_position, way_from, leaf_of, 
 ghost use Rattle.call_find.specs.Find.{found_in, found_at, find_of, find_depth};
 ghost use Rattle.call_find.specs.declared.Found.TheVariants.{Refused as FoundRefused};
 
-use walk::{Reached, Slot};
-
 // What a find answers.
 #[derive(Clone, Copy)]
 pub enum Found {
@@ -19,13 +17,14 @@ pub enum Found {
 }
 
 // The value beside a key in a leaf.
+#[tactic(auto, using(walk::proofs::DescentLaws::slot_below), unfolding(crate::specs::Find::found_in))]
 fn found_in(node: &[u32], key: u32) -> Found
     requires { length node.now ≡ 24 }
     ensures { result ≡ found_in node.now (slot_of node.now key) }
 {
     match walk::find_slot(node, key) {
-        Slot::Absent => Found::Absent,
-        Slot::At(i) => Found::Value(node[card::VALUES + i]),
+        Some(i) => Found::Value(node[card::VALUES + i]),
+        None => Found::Absent,
     }
 }
 
@@ -47,17 +46,18 @@ fn refused(refusal: u32) -> Lookup
 }
 
 // The value of a key that is not 0, below this root of a card of n nodes.
+#[tactic(auto, unfolding(crate::specs::Find::found_at, walk::specs::Descent::depth_of))]
 fn found_at(card: &[u32], n: usize, key: u32, root: usize) -> Lookup
     requires { (length card.now ≡ 8 + 24 * n) × (n ≤ greatest_nodes) }
     ensures { (result.found ≡ found_at card.now key (leaf_of (way_from card.now n key depth_limit (root_position root))))
         × (result.depth ≡ depth_of (leaf_of (way_from card.now n key depth_limit (root_position root)))) }
 {
-    match walk::find_leaf(card, n, key, root) {
-        Reached::Refused => refused(9),
-        Reached::Leaf { node, depth } => Lookup {
-            found: found_in(card::node_at(card, node), key),
-            depth,
-        },
+    let Some(leaf) = walk::find_leaf(card, n, key, root) else {
+        return refused(9);
+    };
+    Lookup {
+        found: found_in(card::node_at(card, leaf.node), key),
+        depth: leaf.depth,
     }
 }
 

@@ -8,8 +8,6 @@ use lib.Dec.{eqb}
 use Rattle.card.specs.Header.{card_refusal, nodes_of_length}
 use Rattle.card.specs.Layout.{depth_limit, node_at, leaf_pairs}
 use Rattle.walk.specs.Descent.{root_position, Way, way_from, way, leaf_of, beside_all}
-use Rattle.walk.specs.declared.Reached.{Reached}
-use Rattle.walk.specs.declared.Reached.TheVariants.{Refused as NotReached, Leaf as ReachedLeaf}
 use Rattle.laws.proofs.Cases.{bool_cases}
 use Rattle.walk_next.proofs.SuccessorLaws.{next_only}
 use Rattle.walk_next.specs.Successor.{least_above, found, next_in_leaf, in_next_leaf, or_next_leaf, next_along, next_in, next_of}
@@ -17,6 +15,8 @@ use Rattle.walk_next.specs.declared.Successor.{Successor}
 use Rattle.walk_next.specs.declared.Successor.TheVariants.{Pair, Nothing, Refused}
 use Rattle.theory_next.proofs.IsNext.{IsNext}
 use Rattle.theory_next.proofs.LeastAbove.{least_next}
+use Rattle.std.specs.Prelude.{Option, Some, None}
+use Rattle.walk.specs.declared.Reached.{Reached}
 
 -- a pair is above the number, and a refusal is 9
 abbrev pub AboveOrNine : ℕ → Successor → Type 0
@@ -30,11 +30,11 @@ next_is_above ps after Nothing i = tt
 next_is_above ps after (Refused r) i = absurd i
 
 module _ (greatest : ℕ) (card : List ℕ) (after : ℕ) where
-  in_leaf_above : (w : Reached) → AboveOrNine after (next_in_leaf card after w)
+  in_leaf_above : (w : Option Reached) → AboveOrNine after (next_in_leaf card after w)
   unfolding next_in_leaf
-  in_leaf_above NotReached = refl
-  in_leaf_above (ReachedLeaf m depth) =
-      let ps = leaf_pairs (node_at card m) in
+  in_leaf_above None = refl
+  in_leaf_above (Some r) =
+      let ps = leaf_pairs (node_at card r.node) in
       next_is_above ps after (found (least_above after ps)) (least_next after ps)
 
   in_next_leaf_above : (n beside : ℕ) → AboveOrNine after (in_next_leaf card n after beside)

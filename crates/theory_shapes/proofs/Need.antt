@@ -8,8 +8,6 @@ use lib.ListN.{length}
 use lib.Dec.{ltb}
 use borrow.Author.Tests.{lt-ltb, le-ltb}
 use Rattle.walk.specs.Descent.{first_equal}
-use Rattle.walk.specs.declared.Slot.{Slot}
-use Rattle.walk.specs.declared.Slot.TheVariants.{At, Absent as NoSlot}
 use Rattle.laws.specs.Cases.{pick}
 use Rattle.theory_shapes.proofs.Bare.{bare, bare_context, bare_plug, bare_run, bare_depth}
 use Rattle.theory_shapes.proofs.Ways.{Reaches, bare_reaches}
@@ -18,11 +16,12 @@ use Rattle.theory_tree.specs.Tree.{Tree, Forest, roots, leaf, node, one, more}
 use Rattle.theory_tree.proofs.Tree.{Left, Right, fill, Context, plug, rightmost, followed, top, down}
 use Rattle.call_change.specs.Updates.{split_need}
 use Rattle.card.specs.Layout.{run_below}
+use Rattle.std.specs.Prelude.{Option, Some, None}
 
 -- the room that the leaf asks for, with so many full nodes straight above it
-unfoldable pub leaf_need : Slot → ℕ → ℕ
-leaf_need (At i) run = 0
-leaf_need NoSlot run = split_need run
+unfoldable pub leaf_need : Option ℕ → ℕ → ℕ
+leaf_need (Some i) run = 0
+leaf_need None run = split_need run
 
 unfoldable mutual
   pub need_of : ℕ → ℕ → Tree → ℕ

@@ -8,8 +8,6 @@ use lib.ListN.{length, set, take, drop}
 use lib.Dec.{eqb, ltb, leb}
 use Rattle.card.specs.Layout.{slot_pairs}
 use Rattle.walk.specs.Descent.{first_equal}
-use Rattle.walk.specs.declared.Slot.{Slot}
-use Rattle.walk.specs.declared.Slot.TheVariants.{At, Absent as NoSlot}
 use Rattle.laws.specs.Cases.{pick}
 use Rattle.laws.specs.Lists.{pad}
 use Rattle.laws.specs.Sorting.{Pairs, sort, pair_keys, pair_values, key_at}
@@ -19,6 +17,7 @@ use Rattle.theory_tree.proofs.Path.{own_violation}
 use Rattle.theory_tree.specs.Violations.{violations}
 use Rattle.theory_tree.specs.Tree.{Tree, Forest, roots, leaf, node, one, more}
 use Rattle.theory_tree.proofs.Tree.{Left, Right, join, splice, Context, rightmost, followed, top, down}
+use Rattle.std.specs.Prelude.{Option, Some, None}
 
 -- a leaf of these pairs, and two side by side
 abbrev pub bare_leaf : Pairs → Tree
@@ -122,17 +121,17 @@ module _ (change : Bool → List ℕ → List ℕ → Tree) (key : ℕ) where
     changed_in (more t x f) = pick (ltb key x) (more (changed_by true t) x f) (more t x (changed_in f))
 
 -- "With an empty slot: value first, then key, in the lowest empty slot. Leaf full: the 12 pairs go 6 and 6 .."
-unfoldable pub put_at : ℕ → ℕ → Slot → Bool → List ℕ → List ℕ → Tree
-put_at key value (At i) below ks vs = leaf 0 (set ks i key) (set vs i value)
-put_at key value NoSlot below ks vs = node 0 below (bare_leaves 6 (sort ((key, value) ∷ slot_pairs ks vs)))
+unfoldable pub put_at : ℕ → ℕ → Option ℕ → Bool → List ℕ → List ℕ → Tree
+put_at key value (Some i) below ks vs = leaf 0 (set ks i key) (set vs i value)
+put_at key value None below ks vs = node 0 below (bare_leaves 6 (sort ((key, value) ∷ slot_pairs ks vs)))
 
 unfoldable pub put_in : ℕ → ℕ → Bool → List ℕ → List ℕ → Tree
 put_in key value below ks vs = put_at key value (first_equal ks 0 0) below ks vs
 
 -- "Delete: key word to 0"
-unfoldable pub take_at : Slot → List ℕ → List ℕ → Tree
-take_at (At i) ks vs = leaf 0 (set ks i 0) vs
-take_at NoSlot ks vs = leaf 0 ks vs
+unfoldable pub take_at : Option ℕ → List ℕ → List ℕ → Tree
+take_at (Some i) ks vs = leaf 0 (set ks i 0) vs
+take_at None ks vs = leaf 0 ks vs
 
 unfoldable pub take_out : ℕ → Bool → List ℕ → List ℕ → Tree
 take_out key below ks vs = take_at (first_equal ks key 0) ks vs

@@ -3,7 +3,7 @@
 use mathlib.Core.Path.{◌≡◌, refl, ap, sym, ◌∙◌}
 use mathlib.Core.List.{List}
 use mathlib.Core.Bool.{Bool}
-use mathlib.Core.Option.{Option, none, some}
+use mathlib.Core.Option.{Option as Maybe, none, some}
 use mathlib.Core.Logic.{by_cases}
 use Prim.Native.Nat.{ℕ, zero, suc, ◌+◌, ◌≤◌, ◌<◌}
 use native.Mathlib.Omega.{arith}
@@ -22,18 +22,17 @@ use Rattle.theory_tree.proofs.Reading.{read_length, leaf_keys, leaf_values}
 use Rattle.theory_tree.specs.Represent.{Represents}
 use Rattle.theory_tree.specs.Tree.{Tree, Forest, leaf, node}
 use Rattle.theory_tree.proofs.Tree.{Context, plug, top, down}
-use Rattle.walk.specs.declared.Slot.{Slot}
-use Rattle.walk.specs.declared.Slot.TheVariants.{At, Absent}
+use Rattle.std.specs.Prelude.{Option, Some, None}
 
 -- what a leaf's words answer for a slot: the value beside the key, or nothing
 -- ("In a leaf it is at the first slot whose key word equals the key.")
-unfoldable pub slot_answer : List ℕ → Slot → Option ℕ
-slot_answer words Absent = none
-slot_answer words (At i) = some (get_or words (12 + i) 0)
+unfoldable pub slot_answer : List ℕ → Option ℕ → Maybe ℕ
+slot_answer words None = none
+slot_answer words (Some i) = some (get_or words (12 + i) 0)
 
-row_answer : List ℕ → Slot → Option ℕ
-row_answer vs Absent = none
-row_answer vs (At i) = some (get_or vs i 0)
+row_answer : List ℕ → Option ℕ → Maybe ℕ
+row_answer vs None = none
+row_answer vs (Some i) = some (get_or vs i 0)
 
 -- from slot j on, with so many slots left
 row_lookup : (key : ℕ) (ks vs : List ℕ) → 0 < key → length ks ≡ length vs → (left j : ℕ) → j + left ≡ length ks
@@ -51,10 +50,10 @@ row_lookup key ks vs pos e (suc left) j h =
     (λ q. rw (ne_eqb (get_or ks j 0) key q, ne_eqb key (get_or ks j 0) (λ z. q (sym z))) (row_lookup key ks vs pos e left (suc j) (omega arith))))
 
 module _ (c : List ℕ) (key m : ℕ) (ks vs : List ℕ) (pos : 0 < key) (r : Represents c (leaf m ks vs)) where
-  answer_row : (s : Slot) → slot_of (node_at c m) key ≡ s → slot_answer (node_at c m) s ≡ row_answer vs s
+  answer_row : (s : Option ℕ) → slot_of (node_at c m) key ≡ s → slot_answer (node_at c m) s ≡ row_answer vs s
   unfolding slot_answer row_answer
-  answer_row Absent e = refl
-  answer_row (At i) e =
+  answer_row None e = refl
+  answer_row (Some i) e =
       let low = slot_below (node_at c m) key i (read_length c m _ _ _ r.0) e in
       ap some (sym (get_value_word (node_at c m) i low) ∙ ap (λ (l : List ℕ). get_or l i 0) (leaf_values c m ks vs r))
 

@@ -18,8 +18,8 @@ use Rattle.theory_tree.specs.Represent.{Represents, Holds}
 use Rattle.theory_tree.proofs.Represent.{link_place}
 use Rattle.theory_tree.specs.Tree.{Tree, leaf}
 use Rattle.theory_tree.proofs.Tree.{Context, plug}
-use Rattle.walk.specs.declared.Landing.TheVariants.{Leaf as LandingAt}
-use Rattle.walk.specs.declared.Reached.TheVariants.{Leaf as ReachedLeaf}
+use Rattle.walk.proofs.DescentLaws.{landing_at}
+use Rattle.walk.proofs.DescentLaws.{leaf_reached}
 
 -- where a key leads in the table t: the leaf, the context that it stands in, the way to it, and that its words answer as the table's
 -- pairs do
@@ -29,8 +29,8 @@ pub record LandedAt (c : List ℕ) (n key : ℕ) (t : Tree) : Type 0 where
   pub values : List ℕ
   pub context : Context
   pub is_tree : plug context (leaf number keys values) ≡ t
-  pub landed : landing_of c (way c n key) ≡ LandingAt number (link_place context) (full_run context)
-  pub reached : leaf_of (way c n key) ≡ ReachedLeaf number (depth_of context)
+  pub landed : landing_of c (way c n key) ≡ landing_at number (link_place context) (full_run context)
+  pub reached : leaf_of (way c n key) ≡ leaf_reached number (depth_of context)
   pub leads : Leads key context
   pub on_card_lem : Represents c (leaf number keys values)
   pub answers : slot_answer (node_at c number) (slot_of (node_at c number) key) ≡ lookup key (pairs t)
@@ -40,15 +40,15 @@ module _ (c : List ℕ) (C : Context) (m : ℕ) (ks vs : List ℕ) where
   abbrev to_leaf : Way
   to_leaf = record { inner = positions_above C (leaf m ks vs); leaf = some (position_of C (leaf m ks vs)) }
 
-  read_landing : Holds c (plug C (leaf m ks vs)) → landing_of c to_leaf ≡ LandingAt m (link_place C) (full_run C)
+  read_landing : Holds c (plug C (leaf m ks vs)) → landing_of c to_leaf ≡ landing_at m (link_place C) (full_run C)
   unfolding landing_of landed_at
   read_landing w =
-      ap₂ (λ (x y : ℕ). LandingAt x y (run_over c 0 (positions_above C (leaf m ks vs)))) (position_node C (leaf m ks vs)) (position_link C (leaf m ks vs))
-      ∙ ap (LandingAt m (link_place C)) (run_on_card c C (leaf m ks vs) w)
+      ap₂ (λ (x y : ℕ). landing_at x y (run_over c 0 (positions_above C (leaf m ks vs)))) (position_node C (leaf m ks vs)) (position_link C (leaf m ks vs))
+      ∙ ap (landing_at m (link_place C)) (run_on_card c C (leaf m ks vs) w)
 
-  read_leaf : leaf_of to_leaf ≡ ReachedLeaf m (depth_of C)
+  read_leaf : leaf_of to_leaf ≡ leaf_reached m (depth_of C)
   unfolding leaf_of reached_at
-  read_leaf = ap₂ (λ (x y : ℕ). ReachedLeaf x y) (position_node C (leaf m ks vs)) (length_above C (leaf m ks vs))
+  read_leaf = ap₂ leaf_reached (position_node C (leaf m ks vs)) (length_above C (leaf m ks vs))
 
 -- The leaf is the one that the look-up finds, and the way to it is the way to any part that the key leads to.
 pub landing_found : (c : List ℕ) (n key : ℕ) → length c ≡ 8 + 24 * n → (lo hi : ℕ) (t : Tree) → Holds c t → InRange lo hi t → lo ≤ key → key < hi → 0 < key → depth t ≤ depth_limit → LandedAt c n key t

@@ -2,7 +2,7 @@
 use mathlib.Core.Path.{◌≡◌, refl, sym, ◌∙◌, subst}
 use mathlib.Core.Bool.{Bool, true, ◌&&◌}
 use mathlib.Core.List.{List, [], ◌∷◌, ◌++◌}
-use mathlib.Core.Option.{Option, none, some}
+use mathlib.Core.Option.{Option as Maybe, none, some}
 use Prim.Native.Nat.{ℕ, zero, suc, ◌+◌, ◌≤◌, ◌<◌}
 use native.Mathlib.Omega.{arith}
 use native.Mathlib.Decide.{ℕ_discrete}
@@ -11,14 +11,12 @@ use lib.Dec.{eqb}
 use Rattle.card.specs.Layout.{depth_limit, root_place, node_at, children, run_below}
 use Rattle.walk.specs.Descent.{look_at, root_position, child_position, Way, nowhere, past, way_from, way, run_over, is_fault, first_fault, ended, to_list, end_of, reached_at}
 use Rattle.walk.specs.Descent.{leaf_of, depth_of, beside_by}
-use Rattle.walk.proofs.DescentLaws.{Inside, leaf_inside, way_nowhere, way_leaf, way_childless, way_too_deep, way_down, beside_told}
+use Rattle.walk.proofs.DescentLaws.{Inside, leaf_inside, way_nowhere, way_leaf, way_childless, way_too_deep, way_down, leaf_reached, same_reached, leaf_beside, beside_told}
 use Rattle.laws.specs.Cases.{pick}
 use Rattle.laws.proofs.Cases.{bool_cases, and_true, impossible}
 use Rattle.walk.specs.declared.Position.{Position}
 use Rattle.walk.specs.declared.Look.{Look}
 use Rattle.walk.specs.declared.Look.TheVariants.{Nowhere, Leaf as IsLeaf, Inner as IsInner}
-use Rattle.walk.specs.declared.Reached.TheVariants.{Leaf as ReachedLeaf}
-use Rattle.walk.specs.declared.Beside.TheVariants.{Leaf as LeafBeside}
 use Rattle.walk.specs.declared.End.{End}
 use Rattle.walk.specs.declared.End.TheVariants.{Leaf as EndLeaf, Fault as EndFault}
 
@@ -34,7 +32,7 @@ module _ (card : List ℕ) (n : ℕ) (P : Position → Type 0) where
     -- "more than 10 internal nodes" do not stand above a leaf that is reached
     pub short : (q : Position) → w.leaf ≡ some q → length w.inner ≤ levels
 
-  no_leaf : {A : Type 0} (q : Position) → ◌≡◌ {A = Option Position} none (some q) → A
+  no_leaf : {A : Type 0} (q : Position) → ◌≡◌ {A = Maybe Position} none (some q) → A
   no_leaf q e = impossible (cc)
 
   along_nowhere : (levels : ℕ) → Along levels nowhere
@@ -94,7 +92,7 @@ module _ (card : List ℕ) (n : ℕ) (P : Position → Type 0) where
       subst FaultOn z (record { holds = h; there = there; fault = (and_true seeks (is_fault (node_at card p.node) p.parent) yes).1 }))
       (λ no. later (rw no at e))
 
-  fault_last : (seeks : Bool) (depth : ℕ) (l : Option Position) (q : Position) → ((x : Position) → l ≡ some x → P x × (look_at card n x.node ≡ IsLeaf))
+  fault_last : (seeks : Bool) (depth : ℕ) (l : Maybe Position) (q : Position) → ((x : Position) → l ≡ some x → P x × (look_at card n x.node ≡ IsLeaf))
       → first_fault card seeks (ended depth l) (to_list l) ≡ EndFault q → FaultOn q
   unfolding first_fault ended to_list
   fault_last seeks depth none q a e = impossible (cc)
@@ -131,20 +129,20 @@ run_over_le card run (p ∷ ps) =
 pub way_inside : (card : List ℕ) (n key levels : ℕ) (p q : Position) → (way_from card n key levels p).leaf ≡ some q → Inside n q.node
 way_inside card n key levels p q e = leaf_inside card n q.node ((along card n (λ x. Unit {0}) key (λ x h l s. tt) levels p tt).leaf q e).1
 
-pub reached_inside : (card : List ℕ) (n key levels : ℕ) (p : Position) (m depth : ℕ) → leaf_of (way_from card n key levels p) ≡ ReachedLeaf m depth → Inside n m
+pub reached_inside : (card : List ℕ) (n key levels : ℕ) (p : Position) (m depth : ℕ) → leaf_of (way_from card n key levels p) ≡ leaf_reached m depth → Inside n m
 unfolding leaf_of reached_at
 reached_inside card n key levels p m depth e = go (way_from card n key levels p).leaf (λ q h. way_inside card n key levels p q h) e
   where
-    go : (l : Option Position) → ((q : Position) → l ≡ some q → Inside n q.node) → reached_at (length (way_from card n key levels p).inner) l ≡ ReachedLeaf m depth → Inside n m
+    go : (l : Maybe Position) → ((q : Position) → l ≡ some q → Inside n q.node) → reached_at (length (way_from card n key levels p).inner) l ≡ leaf_reached m depth → Inside n m
     go none h z = impossible (cc)
-    go (some q) h z = let w : q.node ≡ m = cc in rw w at (h q refl)
+    go (some q) h z = rw (same_reached _ _ _ _ z).0 at (h q refl)
 
 -- "more than 10 internal nodes" do not stand above it
 pub depth_le : (card : List ℕ) (n key levels : ℕ) (p : Position) → depth_of (leaf_of (way_from card n key levels p)) ≤ levels
 unfolding depth_of leaf_of reached_at
 depth_le card n key levels p = go (way_from card n key levels p).leaf (along card n (λ x. Unit {0}) key (λ x h l s. tt) levels p tt).short
   where
-    go : (l : Option Position) → ((q : Position) → l ≡ some q → length (way_from card n key levels p).inner ≤ levels)
+    go : (l : Maybe Position) → ((q : Position) → l ≡ some q → length (way_from card n key levels p).inner ≤ levels)
         → depth_of (reached_at (length (way_from card n key levels p).inner) l) ≤ levels
     go none h = omega arith
     go (some q) h = h q refl
@@ -153,5 +151,5 @@ pub way_depth_le : (card : List ℕ) (n key : ℕ) → depth_of (leaf_of (way ca
 unfolding way
 way_depth_le card n key = depth_le card n key depth_limit (root_position (get_or card root_place 0))
 
-pub beside_inside : (card : List ℕ) (n key beside levels : ℕ) (p : Position) (m b depth : ℕ) → beside_by card key beside (way_from card n key levels p) ≡ LeafBeside m b depth → Inside n m
+pub beside_inside : (card : List ℕ) (n key beside levels : ℕ) (p : Position) (m b depth : ℕ) → beside_by card key beside (way_from card n key levels p) ≡ leaf_beside m b depth → Inside n m
 beside_inside card n key beside levels p m b depth q = reached_inside card n key levels p m depth (beside_told card key beside _ m b depth q).0

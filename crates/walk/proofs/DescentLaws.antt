@@ -2,7 +2,8 @@
 -- node makes of a key.
 use mathlib.Core.Path.{◌≡◌, refl, ap, ap₂, sym, ◌∙◌, subst}
 use mathlib.Core.List.{List, [], ◌∷◌, ◌++◌}
-use mathlib.Core.Option.{Option, none, some}
+use mathlib.Core.Option.{Option as Maybe, none, some}
+use Rattle.std.specs.Prelude.{Option, Some, None}
 use mathlib.Core.Bool.{Bool, true, false, ◌&&◌}
 use mathlib.Core.Logic.{◌⊎◌, inl, inr, by_cases}
 use Prim.Native.Nat.{ℕ, zero, suc, ◌+◌, ◌-◌, ◌*◌, ◌≤◌, ◌<◌}
@@ -21,17 +22,15 @@ use Rattle.walk.specs.Descent.{seek, beside_at, beside_by}
 use Rattle.laws.specs.Cases.{pick}
 use Rattle.laws.proofs.Cases.{order, bool_cases, impossible}
 use Rattle.laws.specs.Lists.{before_zero}
-use Rattle.walk.specs.declared.Slot.{Slot}
-use Rattle.walk.specs.declared.Slot.TheVariants.{At, Absent}
+use Rattle.std.proofs.lemmas.Option.{same_Some}
 use Rattle.walk.specs.declared.Position.{Position}
 use Rattle.walk.specs.declared.Down.{Down}
 use Rattle.walk.specs.declared.Down.TheVariants.{Nowhere as DownNowhere, Leaf as DownLeaf, Childless, Inner as DownInner}
 use Rattle.walk.specs.declared.Look.{Look}
 use Rattle.walk.specs.declared.Look.TheVariants.{Nowhere, Leaf as IsLeaf, Inner as IsInner}
 use Rattle.walk.specs.declared.Reached.{Reached}
-use Rattle.walk.specs.declared.Reached.TheVariants.{Refused as NotReached, Leaf as ReachedLeaf}
 use Rattle.walk.specs.declared.Beside.{Beside}
-use Rattle.walk.specs.declared.Beside.TheVariants.{Refused as NoLeaf, Leaf as LeafBeside}
+use Rattle.walk.specs.declared.Landing.{Landing}
 use Rattle.walk.specs.declared.End.{End}
 use Rattle.walk.specs.declared.End.TheVariants.{Refused as EndRefused, Leaf as EndLeaf, Fault as EndFault}
 use Rattle.walk.specs.declared.Search.TheVariants.{Violation as SearchViolation}
@@ -39,7 +38,7 @@ use Rattle.walk.specs.declared.Search.TheVariants.{Violation as SearchViolation}
 -- ---- the slot of a key
 
 -- what is left of the look-up from slot i on
-unfoldable pub slot_from : List ℕ → ℕ → ℕ → Slot
+unfoldable pub slot_from : List ℕ → ℕ → ℕ → Option ℕ
 slot_from node key i = first_equal (drop i (key_words node)) key i
 
 pub slot_start : (node : List ℕ) (key : ℕ) → slot_of node key ≡ slot_from node key 0
@@ -47,7 +46,7 @@ unfolding slot_from slot_of
 slot_start node key = refl
 
 module _ (node : List ℕ) (len : length node ≡ 24) (key i : ℕ) where
-  pub slot_here : i < 11 → get_or node (1 + i) 0 ≡ key → slot_from node key i ≡ At i
+  pub slot_here : i < 11 → get_or node (1 + i) 0 ≡ key → slot_from node key i ≡ Some i
   unfolding slot_from first_equal
   slot_here h e = rw (drop-cons (key_words node) i 0 (omega (arith, length_key_words node len))) (rw (eq-eqb (get_or (key_words node) i 0) key (get_key_word node i h ∙ e)))
 
@@ -57,21 +56,21 @@ module _ (node : List ℕ) (len : length node ≡ 24) (key i : ℕ) where
       rw (drop-cons (key_words node) i 0 (omega (arith, length_key_words node len)))
       (rw (ne_eqb (get_or (key_words node) i 0) key (λ e. p (sym (get_key_word node i h) ∙ e)), add-one i))
 
-  pub slot_end : 11 ≤ i → slot_from node key i ≡ Absent
+  pub slot_end : 11 ≤ i → slot_from node key i ≡ None
   unfolding slot_from first_equal
   slot_end h = ap (λ (l : List ℕ). first_equal l key i) (drop_of_length-le (key_words node) {i = i} (omega (arith, length_key_words node len)))
 
 -- a slot that is found is one of the eleven
-first_below : (ws : List ℕ) (key j i : ℕ) → first_equal ws key j ≡ At i → i < j + length ws
+first_below : (ws : List ℕ) (key j i : ℕ) → first_equal ws key j ≡ Some i → i < j + length ws
 unfolding first_equal
 first_below [] key j i e = impossible (cc)
 first_below (w ∷ ws) key j i e = go (eqb w key) (λ q. first_below ws key (suc j) i q) e
   where
-    go : (b : Bool) → (first_equal ws key (suc j) ≡ At i → i < suc j + length ws) → pick b (At j) (first_equal ws key (suc j)) ≡ At i → i < j + suc (length ws)
+    go : (b : Bool) → (first_equal ws key (suc j) ≡ Some i → i < suc j + length ws) → pick b (Some j) (first_equal ws key (suc j)) ≡ Some i → i < j + suc (length ws)
     go true h q = let z : j ≡ i = cc in omega arith
     go false h q = omega (arith, h q)
 
-pub slot_below : (node : List ℕ) (key i : ℕ) → length node ≡ 24 → slot_of node key ≡ At i → i < 11
+pub slot_below : (node : List ℕ) (key i : ℕ) → length node ≡ 24 → slot_of node key ≡ Some i → i < 11
 unfolding slot_of
 slot_below node key i len e = omega (arith, first_below (key_words node) key 0 i e, length_key_words node len)
 
@@ -355,23 +354,30 @@ onward_deeper card n key depth q l h =
 
 -- ---- the leaf, read off the way
 
--- below so many internal nodes more
-unfoldable pub deeper : ℕ → Reached → Reached
-deeper d NotReached = NotReached
-deeper d (ReachedLeaf m depth) = ReachedLeaf m (d + depth)
+-- a leaf that is reached, by its number and what stands above it
+abbrev pub leaf_reached : ℕ → ℕ → Option Reached
+leaf_reached m depth = Some (record { node = m; depth = depth })
 
-pub deeper_none : (r : Reached) → r ≡ deeper 0 r
+pub same_reached : (m depth k other : ℕ) → leaf_reached m depth ≡ leaf_reached k other → (m ≡ k) × (depth ≡ other)
+same_reached m depth k other e = let z = same_Some _ _ e in (ap (λ (r : Reached). r.node) z, ap (λ (r : Reached). r.depth) z)
+
+-- below so many internal nodes more
+unfoldable pub deeper : ℕ → Option Reached → Option Reached
+deeper d None = None
+deeper d (Some r) = Some (record { node = r.node; depth = d + r.depth })
+
+pub deeper_none : (r : Option Reached) → r ≡ deeper 0 r
 unfolding deeper
-deeper_none NotReached = refl
-deeper_none (ReachedLeaf m depth) = ap (ReachedLeaf m) (omega arith)
+deeper_none None = refl
+deeper_none (Some r) = ap (leaf_reached r.node) (omega arith)
 
 leaf_past : (p : Position) (w : Way) → leaf_of (past p w) ≡ deeper 1 (leaf_of w)
 unfolding leaf_of past reached_at deeper
 leaf_past p w = go (length w.inner) w.leaf
   where
-    go : (d : ℕ) (l : Option Position) → reached_at (suc d) l ≡ deeper 1 (reached_at d l)
+    go : (d : ℕ) (l : Maybe Position) → reached_at (suc d) l ≡ deeper 1 (reached_at d l)
     go d none = refl
-    go d (some q) = ap (ReachedLeaf q.node) (omega arith)
+    go d (some q) = ap (leaf_reached q.node) (omega arith)
 
 -- past a node
 pub leaf_on : (card : List ℕ) (n key : ℕ) (p q : Position) (depth : ℕ) → depth ≤ depth_limit → (depth ≡ depth_limit → ⊥)
@@ -381,9 +387,9 @@ leaf_on card n key p q depth l h =
     ap (λ (w : Way). deeper depth (leaf_of (past p w))) (onward_deeper card n key depth q l h)
     ∙ ap (deeper depth) (leaf_past p (way_from card n key (depth_limit - (depth + 1)) q)) ∙ deeper_twice (leaf_of (way_from card n key (depth_limit - (depth + 1)) q))
   where
-    deeper_twice : (r : Reached) → deeper depth (deeper 1 r) ≡ deeper (depth + 1) r
-    deeper_twice NotReached = refl
-    deeper_twice (ReachedLeaf m d) = ap (ReachedLeaf m) (omega arith)
+    deeper_twice : (r : Option Reached) → deeper depth (deeper 1 r) ≡ deeper (depth + 1) r
+    deeper_twice None = refl
+    deeper_twice (Some r) = ap (leaf_reached r.node) (omega arith)
 
 -- ---- the run above the leaf, read off the way
 
@@ -410,8 +416,15 @@ module _ (node : List ℕ) (i beside : ℕ) where
   unfolding beside_after
   after_child h = simp (ne_eqb (get_or node (13 + i) 0) 0 h)
 
+-- a leaf that is reached, with what stands right after it
+abbrev pub leaf_beside : ℕ → ℕ → ℕ → Option Beside
+leaf_beside m beside depth = Some (record { node = m; beside = beside; depth = depth })
+
+pub same_beside : (m e depth k x other : ℕ) → leaf_beside m e depth ≡ leaf_beside k x other → (m ≡ k) × (e ≡ x) × (depth ≡ other)
+same_beside m e depth k x other q = let z = same_Some _ _ q in (ap (λ (b : Beside). b.node) z, ap (λ (b : Beside). b.beside) z, ap (λ (b : Beside). b.depth) z)
+
 -- below so many internal nodes more
-unfoldable pub beside_below : ℕ → List ℕ → ℕ → ℕ → Way → Beside
+unfoldable pub beside_below : ℕ → List ℕ → ℕ → ℕ → Way → Option Beside
 beside_below depth card key beside w = beside_at (beside_all card key beside w.inner) (depth + length w.inner) w.leaf
 
 module _ (card : List ℕ) (key beside : ℕ) where
@@ -420,17 +433,17 @@ module _ (card : List ℕ) (key beside : ℕ) where
   beside_start w = ap (λ (d : ℕ). beside_at (beside_all card key beside w.inner) d w.leaf) (omega arith)
 
   module _ (depth : ℕ) where
-    pub beside_nowhere : beside_below depth card key beside nowhere ≡ NoLeaf
+    pub beside_nowhere : beside_below depth card key beside nowhere ≡ None
     unfolding beside_below beside_at
     beside_nowhere = refl
 
-    pub beside_stop : (p : Position) → beside_below depth card key beside (past p nowhere) ≡ NoLeaf
+    pub beside_stop : (p : Position) → beside_below depth card key beside (past p nowhere) ≡ None
     unfolding beside_below beside_at past
     beside_stop p = refl
 
-    pub beside_leaf : (p : Position) → beside_below depth card key beside (record { inner = []; leaf = some p }) ≡ LeafBeside p.node beside depth
+    pub beside_leaf : (p : Position) → beside_below depth card key beside (record { inner = []; leaf = some p }) ≡ leaf_beside p.node beside depth
     unfolding beside_below beside_at beside_all
-    beside_leaf p = ap (LeafBeside p.node beside) (omega arith)
+    beside_leaf p = ap (leaf_beside p.node beside) (omega arith)
 
     -- past a node in hand
     pub beside_past : (p : Position) (m : ℕ) (node : List ℕ) → p.node ≡ m → node ≡ node_at card m → (i e : ℕ) → i ≡ child_index node key
@@ -442,23 +455,23 @@ module _ (card : List ℕ) (key beside : ℕ) where
         (omega arith)
 
   -- what it says of the way
-  pub beside_refused : (w : Way) → beside_by card key beside w ≡ NoLeaf → leaf_of w ≡ NotReached
+  pub beside_refused : (w : Way) → beside_by card key beside w ≡ None → leaf_of w ≡ None
   unfolding beside_by beside_at leaf_of reached_at
   beside_refused w e = go w.leaf e
     where
-      go : (o : Option Position) → beside_at (beside_all card key beside w.inner) (length w.inner) o ≡ NoLeaf → reached_at (length w.inner) o ≡ NotReached
+      go : (o : Maybe Position) → beside_at (beside_all card key beside w.inner) (length w.inner) o ≡ None → reached_at (length w.inner) o ≡ None
       go none q = refl
       go (some p) q = impossible (cc)
 
-  pub beside_told : (w : Way) (m e depth : ℕ) → beside_by card key beside w ≡ LeafBeside m e depth
-      → (leaf_of w ≡ ReachedLeaf m depth) × (beside_all card key beside w.inner ≡ e)
+  pub beside_told : (w : Way) (m e depth : ℕ) → beside_by card key beside w ≡ leaf_beside m e depth
+      → (leaf_of w ≡ leaf_reached m depth) × (beside_all card key beside w.inner ≡ e)
   unfolding beside_by beside_at leaf_of reached_at
   beside_told w m e depth q = go w.leaf q
     where
-      go : (o : Option Position) → beside_at (beside_all card key beside w.inner) (length w.inner) o ≡ LeafBeside m e depth
-          → (reached_at (length w.inner) o ≡ ReachedLeaf m depth) × (beside_all card key beside w.inner ≡ e)
+      go : (o : Maybe Position) → beside_at (beside_all card key beside w.inner) (length w.inner) o ≡ leaf_beside m e depth
+          → (reached_at (length w.inner) o ≡ leaf_reached m depth) × (beside_all card key beside w.inner ≡ e)
       go none r = impossible (cc)
-      go (some p) r = (cc, cc)
+      go (some p) r = let z = same_beside _ _ _ _ _ _ r in (ap₂ leaf_reached z.0 z.2, z.1)
 
 -- ---- faults
 
@@ -533,7 +546,7 @@ module _ (card : List ℕ) (seeks : Bool) where
       end_fault w e = rw e
 
   -- a search tells no depth
-  search_any : (depth other : ℕ) (l : Option Position) (ps : List Position) → search_of (first_fault card seeks (ended depth l) ps) ≡ search_of (first_fault card seeks (ended other l) ps)
+  search_any : (depth other : ℕ) (l : Maybe Position) (ps : List Position) → search_of (first_fault card seeks (ended depth l) ps) ≡ search_of (first_fault card seeks (ended other l) ps)
   unfolding search_of first_fault ended
   search_any depth other none [] = refl
   search_any depth other (some q) [] = refl
@@ -560,6 +573,13 @@ pub fault_at : (card : List ℕ) (n key : ℕ) (seeks : Bool) (levels : ℕ) (p 
     → look_at card n p.node ≡ IsInner → stops card seeks p ≡ true → end_of card seeks (way_from card n key levels p) ≡ EndFault p
 fault_at card n key seeks levels p e f = ap (end_of card seeks) (way_inner card n key p levels e) ∙ end_start card seeks _ ∙ end_fault card seeks 0 p _ f
 
+-- where an update lands, by its three numbers
+abbrev pub landing_at : ℕ → ℕ → ℕ → Option Landing
+landing_at m link run = Some (record { node = m; link = link; run = run })
+
+pub same_landing : (m link run k x other : ℕ) → landing_at m link run ≡ landing_at k x other → (m ≡ k) × (link ≡ x) × (run ≡ other)
+same_landing m link run k x other e = let z = same_Some _ _ e in (ap (λ (l : Landing). l.node) z, ap (λ (l : Landing). l.link) z, ap (λ (l : Landing). l.run) z)
+
 -- where no fault is sought the way ends at its leaf
 unsought : (card : List ℕ) (end : End) (ps : List Position) → first_fault card false end ps ≡ end
 unfolding first_fault
@@ -571,35 +591,27 @@ unfolding end_of
 end_unsought card w = unsought card (ended (length w.inner) w.leaf) (w.inner ++ to_list w.leaf)
 
 module _ (card : List ℕ) (w : Way) where
-  pub unsought_refused : end_of card false w ≡ EndRefused → w.leaf ≡ none
+  pub unsought_none : ((p : Position) (depth : ℕ) → end_of card false w ≡ EndLeaf p depth → ⊥) → w.leaf ≡ none
   unfolding ended
-  unsought_refused e = go w.leaf (sym (end_unsought card w) ∙ e)
+  unsought_none h = go w.leaf (λ p depth e. h p depth (end_unsought card w ∙ e))
     where
-      go : (l : Option Position) → ended (length w.inner) l ≡ EndRefused → l ≡ none
+      go : (l : Maybe Position) → ((p : Position) (depth : ℕ) → ended (length w.inner) l ≡ EndLeaf p depth → ⊥) → l ≡ none
       go none f = refl
-      go (some p) f = impossible (cc)
+      go (some p) f = absurd (f p (length w.inner) refl)
 
   pub unsought_leaf : (p : Position) (depth : ℕ) → end_of card false w ≡ EndLeaf p depth → w.leaf ≡ some p
   unfolding ended
   unsought_leaf p depth e = go w.leaf (sym (end_unsought card w) ∙ e)
     where
-      go : (l : Option Position) → ended (length w.inner) l ≡ EndLeaf p depth → l ≡ some p
+      go : (l : Maybe Position) → ended (length w.inner) l ≡ EndLeaf p depth → l ≡ some p
       go none f = impossible (cc)
       go (some q) f = let z : q ≡ p = cc in ap some z
 
   -- and its depth is the leaf's
-  pub unsought_reached : (p : Position) (depth : ℕ) → end_of card false w ≡ EndLeaf p depth → leaf_of w ≡ ReachedLeaf p.node depth
+  pub unsought_reached : (p : Position) (depth : ℕ) → end_of card false w ≡ EndLeaf p depth → leaf_of w ≡ leaf_reached p.node depth
   unfolding ended leaf_of reached_at
   unsought_reached p depth e = go w.leaf (sym (end_unsought card w) ∙ e)
     where
-      go : (l : Option Position) → ended (length w.inner) l ≡ EndLeaf p depth → reached_at (length w.inner) l ≡ ReachedLeaf p.node depth
+      go : (l : Maybe Position) → ended (length w.inner) l ≡ EndLeaf p depth → reached_at (length w.inner) l ≡ leaf_reached p.node depth
       go none f = impossible (cc)
-      go (some q) f = let z : q ≡ p = cc in ap₂ (λ (x : Position) (d : ℕ). ReachedLeaf x.node d) z (cc)
-
-  pub unsought_fault : (p : Position) → end_of card false w ≡ EndFault p → ⊥
-  unfolding ended
-  unsought_fault p e = go w.leaf (sym (end_unsought card w) ∙ e)
-    where
-      go : (l : Option Position) → ended (length w.inner) l ≡ EndFault p → ⊥
-      go none f = impossible (cc)
-      go (some q) f = impossible (cc)
+      go (some q) f = let z : q ≡ p = cc in ap₂ (λ (x : Position) (d : ℕ). leaf_reached x.node d) z (cc)

@@ -1,21 +1,16 @@
 -- Document 01, "The card", last paragraph, and the row "on the way down" of "Refusal by place".
-use Rattle.std.specs.Prelude.{Bool, true, ◌&&◌, ◌||◌, not, List, [], ◌∷◌, ◌++◌, ℕ, zero, suc, ◌+◌, length, get_or, eqb, ltb}
-use Rattle.std.proofs.Math.Option.{Option, none, some}
+use Rattle.std.specs.Prelude.{Bool, true, ◌&&◌, ◌||◌, not, List, [], ◌∷◌, ◌++◌, ℕ, zero, suc, ◌+◌, length, get_or, eqb, ltb, Option, Some, None}
+use Rattle.std.proofs.Math.Option.{Option as Maybe, none, some}
 use Rattle.laws.specs.Cases.{pick}
 use Rattle.card.specs.Layout.{root_place, depth_limit, place, node_at, kind_of, key_words, children, routing_keys, leaf_pairs, run_below}
-use Rattle.walk.specs.declared.Slot.{Slot}
-use Rattle.walk.specs.declared.Slot.TheVariants.{At, Absent}
 use Rattle.walk.specs.declared.Position.{Position}
 use Rattle.walk.specs.declared.Look.{Look}
 use Rattle.walk.specs.declared.Look.TheVariants.{Nowhere, Leaf as IsLeaf, Inner as IsInner}
 use Rattle.walk.specs.declared.Down.{Down}
 use Rattle.walk.specs.declared.Down.TheVariants.{Nowhere as DownNowhere, Leaf as DownLeaf, Childless, Inner as DownInner}
 use Rattle.walk.specs.declared.Reached.{Reached}
-use Rattle.walk.specs.declared.Reached.TheVariants.{Refused as NotReached, Leaf as ReachedLeaf}
 use Rattle.walk.specs.declared.Beside.{Beside}
-use Rattle.walk.specs.declared.Beside.TheVariants.{Refused as NoLeaf, Leaf as LeafBeside}
 use Rattle.walk.specs.declared.Landing.{Landing}
-use Rattle.walk.specs.declared.Landing.TheVariants.{Refused as NoLanding, Leaf as LandingAt}
 use Rattle.walk.specs.declared.End.{End}
 use Rattle.walk.specs.declared.End.TheVariants.{Refused as EndRefused, Leaf as EndLeaf, Fault as EndFault}
 use Rattle.walk.specs.declared.Search.{Search}
@@ -34,12 +29,12 @@ unfoldable pub child_for : List ℕ → ℕ → ℕ
 child_for node key = get_or node (12 + child_index node key) 0
 
 -- the first of the words that is the key, where the first is number i
-unfoldable pub first_equal : List ℕ → ℕ → ℕ → Slot
-first_equal [] key i = Absent
-first_equal (w ∷ ws) key i = pick (eqb w key) (At i) (first_equal ws key (suc i))
+unfoldable pub first_equal : List ℕ → ℕ → ℕ → Option ℕ
+first_equal [] key i = None
+first_equal (w ∷ ws) key i = pick (eqb w key) (Some i) (first_equal ws key (suc i))
 
 -- "In a leaf it is at the first slot whose key word equals the key."
-unfoldable pub slot_of : List ℕ → ℕ → Slot
+unfoldable pub slot_of : List ℕ → ℕ → Option ℕ
 slot_of node key = first_equal (key_words node) key 0
 
 -- ---- the way down
@@ -86,7 +81,7 @@ child_position node key p = child_at p (child_index node key) (child_for node ke
 -- "node number 0 or above N, kind not 1 to 3, no children, or more than 10 internal nodes".
 pub record Way : Type 0 where
   pub inner : List Position
-  pub leaf : Option Position
+  pub leaf : Maybe Position
 
 abbrev pub nowhere : Way
 nowhere = record { inner = []; leaf = none }
@@ -112,18 +107,18 @@ way card n key = way_from card n key depth_limit (root_position (get_or card roo
 -- ---- what is read off it
 
 -- the leaf, and how many internal nodes stand above it
-unfoldable pub reached_at : ℕ → Option Position → Reached
-reached_at depth none = NotReached
-reached_at depth (some p) = ReachedLeaf p.node depth
+unfoldable pub reached_at : ℕ → Maybe Position → Option Reached
+reached_at depth none = None
+reached_at depth (some p) = Some (record { node = p.node; depth = depth })
 
-unfoldable pub leaf_of : Way → Reached
+unfoldable pub leaf_of : Way → Option Reached
 leaf_of w = reached_at (length w.inner) w.leaf
 
 -- Document 02, W-203: "The walk down shall tell that count": how many internal nodes the way passes, "tagged ones counted". "A refusal
 -- carries none": 0.
-unfoldable pub depth_of : Reached → ℕ
-depth_of NotReached = 0
-depth_of (ReachedLeaf m depth) = depth
+unfoldable pub depth_of : Option Reached → ℕ
+depth_of None = 0
+depth_of (Some r) = r.depth
 
 -- "Let j be the number of 11-child nodes without a break straight above a full leaf": over the internal nodes of a way, where so
 -- many stand above the first of them
@@ -142,19 +137,19 @@ beside_all card key beside [] = beside
 beside_all card key beside (p ∷ ps) = beside_all card key (beside_after (node_at card p.node) (child_index (node_at card p.node) key) beside) ps
 
 -- the leaf that a way ends at, with what stands right after it and how many internal nodes stand above it
-unfoldable pub beside_at : ℕ → ℕ → Option Position → Beside
-beside_at beside depth none = NoLeaf
-beside_at beside depth (some p) = LeafBeside p.node beside depth
+unfoldable pub beside_at : ℕ → ℕ → Maybe Position → Option Beside
+beside_at beside depth none = None
+beside_at beside depth (some p) = Some (record { node = p.node; beside = beside; depth = depth })
 
-unfoldable pub beside_by : List ℕ → ℕ → ℕ → Way → Beside
+unfoldable pub beside_by : List ℕ → ℕ → ℕ → Way → Option Beside
 beside_by card key beside w = beside_at (beside_all card key beside w.inner) (length w.inner) w.leaf
 
 -- where an update's key leads: the leaf, the word that links to it, and j
-unfoldable pub landed_at : ℕ → Option Position → Landing
-landed_at run none = NoLanding
-landed_at run (some p) = LandingAt p.node p.link run
+unfoldable pub landed_at : ℕ → Maybe Position → Option Landing
+landed_at run none = None
+landed_at run (some p) = Some (record { node = p.node; link = p.link; run = run })
 
-unfoldable pub landing_of : List ℕ → Way → Landing
+unfoldable pub landing_of : List ℕ → Way → Option Landing
 landing_of card w = landed_at (run_over card 0 w.inner) w.leaf
 
 -- how many pairs or children a node has
@@ -172,11 +167,11 @@ first_fault card seeks end [] = end
 first_fault card seeks end (p ∷ ps) = pick (seeks && is_fault (node_at card p.node) p.parent) (EndFault p) (first_fault card seeks end ps)
 
 -- at the leaf, below so many internal nodes
-unfoldable pub ended : ℕ → Option Position → End
+unfoldable pub ended : ℕ → Maybe Position → End
 ended depth none = EndRefused
 ended depth (some p) = EndLeaf p depth
 
-unfoldable pub to_list : Option Position → List Position
+unfoldable pub to_list : Maybe Position → List Position
 to_list none = []
 to_list (some p) = p ∷ []
 

@@ -7,25 +7,19 @@ ghost use Rattle.card.specs.Layout.{greatest_nodes, depth_limit, run_below};
 ghost use Rattle.walk.specs.Descent.{child_index, slot_of, outside, look_in, down_in, child_at, is_fault, passed_with, root_position, way_from, leaf_of, run_over, beside_after, beside_by};
 ghost use Rattle.walk.specs.Descent.{landing_of, end_of, seek};
 
-// The slot of a key in a leaf.
-#[derive(Clone, Copy)]
-pub enum Slot {
-    At(usize),
-    Absent,
-}
-
-// The first of the eleven slots whose key word is the key.
-pub fn find_slot(node: &[u32], key: u32) -> Slot
+// The slot of a key in a leaf: the first of the eleven whose key word is the key.
+pub fn find_slot(node: &[u32], key: u32) -> Option<usize>
     requires { length node.now ≡ 24 }
     ensures { result ≡ slot_of node.now key }
 {
     let mut i: usize = 0;
+    // by hand: the form asked for is "a loop over eleven slots that breaks with the slot's number", and no `for` breaks with a value
     loop {
         if card::SLOTS <= i {
-            break Slot::Absent;
+            break None;
         }
         if node[card::KEYS + i] == key {
-            break Slot::At(i);
+            break Some(i);
         }
         i += 1;
     }
@@ -51,13 +45,11 @@ fn child_index(node: &[u32], key: u32) -> usize
 }
 
 // "9: node number 0 or above N"
+#[tactic(auto, unfolding(crate::specs::Descent::outside))]
 fn is_outside(n: usize, m: usize) -> bool
     ensures { result ≡ outside n m }
 {
-    if m == 0 {
-        return true;
-    }
-    n < m
+    m == 0 || n < m
 }
 
 // What a node is.
@@ -69,6 +61,7 @@ pub enum Look {
 }
 
 // "kind not 1 to 3"
+#[tactic(auto, unfolding(crate::specs::Descent::look_in))]
 fn look_in(node: &[u32]) -> Look
     requires { length node.now ≡ 24 }
     ensures { result ≡ look_in node.now }
@@ -125,6 +118,7 @@ fn is_too_deep(depth: usize) -> bool
 }
 
 // How many internal nodes are passed when the way goes on below this node, "tagged ones counted" (document 02, W-203): all but a leaf.
+#[tactic(auto, unfolding(crate::specs::Descent::passed_with))]
 fn passed_with(node: &[u32], depth: usize) -> usize
     requires { (length node.now ≡ 24) × (depth ≤ depth_limit) }
     ensures { result ≡ passed_with node.now depth }
@@ -136,15 +130,15 @@ fn passed_with(node: &[u32], depth: usize) -> usize
     }
 }
 
-// The leaf that a key leads to, and how many internal nodes stand above it; or refusal 9.
+// The leaf that a key leads to, and how many internal nodes stand above it.
 #[derive(Clone, Copy)]
-pub enum Reached {
-    Refused,
-    Leaf { node: usize, depth: usize },
+pub struct Reached {
+    pub node: usize,
+    pub depth: usize,
 }
 
-// A find needs the leaf alone, and so keeps no position.
-pub fn find_leaf(card: &[u32], n: usize, key: u32, root: usize) -> Reached
+// None is refusal 9. A find needs the leaf alone, and so keeps no position.
+pub fn find_leaf(card: &[u32], n: usize, key: u32, root: usize) -> Option<Reached>
     requires { (length card.now ≡ 8 + 24 * n) × (n ≤ greatest_nodes) }
     ensures { result ≡ leaf_of (way_from card.now n key depth_limit (root_position root)) }
 {
@@ -152,22 +146,22 @@ pub fn find_leaf(card: &[u32], n: usize, key: u32, root: usize) -> Reached
     let mut depth: usize = 0;
     loop {
         if is_outside(n, m) {
-            return Reached::Refused;
+            return None;
         }
         let node = card::node_at(card, m);
         match go_down(node, key) {
             Down::Nowhere => {
-                return Reached::Refused;
+                return None;
             }
             Down::Leaf => {
-                return Reached::Leaf { node: m, depth };
+                return Some(Reached { node: m, depth });
             }
             Down::Childless => {
-                return Reached::Refused;
+                return None;
             }
             Down::Inner { index: _, child } => {
                 if is_too_deep(depth) {
-                    return Reached::Refused;
+                    return None;
                 }
                 depth = passed_with(node, depth);
                 m = child;
@@ -178,6 +172,7 @@ pub fn find_leaf(card: &[u32], n: usize, key: u32, root: usize) -> Reached
 
 // What stands right after a child: the child after it, or, where there is none, what stands beside its parent. The word after the last
 // of eleven children is the node's last one, which is 0.
+#[tactic(auto, unfolding(crate::specs::Descent::beside_after))]
 fn beside_after(node: &[u32], index: usize, beside: usize) -> usize
     requires { (length node.now ≡ 24) × (index ≤ 10) }
     ensures { result ≡ beside_after node.now index beside }
@@ -190,18 +185,16 @@ fn beside_after(node: &[u32], index: usize, beside: usize) -> usize
 }
 
 // The leaf that a key leads to, the number of the deepest node that stands right after the way there, 0 where there is none, and how many
-// internal nodes stand above the leaf; or refusal 9.
+// internal nodes stand above the leaf.
 #[derive(Clone, Copy)]
-pub enum Beside {
-    Refused,
-    Leaf {
-        node: usize,
-        beside: usize,
-        depth: usize,
-    },
+pub struct Beside {
+    pub node: usize,
+    pub beside: usize,
+    pub depth: usize,
 }
 
-pub fn find_beside(card: &[u32], n: usize, key: u32, root: usize) -> Beside
+// None is refusal 9.
+pub fn find_beside(card: &[u32], n: usize, key: u32, root: usize) -> Option<Beside>
     requires { (length card.now ≡ 8 + 24 * n) × (n ≤ greatest_nodes) }
     ensures { result ≡ beside_by card.now key 0 (way_from card.now n key depth_limit (root_position root)) }
 {
@@ -210,26 +203,26 @@ pub fn find_beside(card: &[u32], n: usize, key: u32, root: usize) -> Beside
     let mut depth: usize = 0;
     loop {
         if is_outside(n, m) {
-            return Beside::Refused;
+            return None;
         }
         let node = card::node_at(card, m);
         match go_down(node, key) {
             Down::Nowhere => {
-                return Beside::Refused;
+                return None;
             }
             Down::Leaf => {
-                return Beside::Leaf {
+                return Some(Beside {
                     node: m,
                     beside,
                     depth,
-                };
+                });
             }
             Down::Childless => {
-                return Beside::Refused;
+                return None;
             }
             Down::Inner { index, child } => {
                 if is_too_deep(depth) {
-                    return Beside::Refused;
+                    return None;
                 }
                 beside = beside_after(node, index, beside);
                 depth = passed_with(node, depth);
@@ -279,10 +272,7 @@ fn is_fault(node: &[u32], parent: usize) -> bool
     if kind == card::LEAF {
         return card::pair_count(node) < 2;
     }
-    if node[card::VALUES] == 0 {
-        return true;
-    }
-    node[card::SECOND_CHILD] == 0
+    node[card::VALUES] == 0 || node[card::SECOND_CHILD] == 0
 }
 
 // Whether a walk that seeks faults stops here.
@@ -290,10 +280,7 @@ fn stops(node: &[u32], parent: usize, seeks: bool) -> bool
     requires { length node.now ≡ 24 }
     ensures { result ≡ seeks && is_fault node.now parent }
 {
-    if seeks {
-        return is_fault(node, parent);
-    }
-    false
+    seeks && is_fault(node, parent)
 }
 
 // Where a way ends: at refusal 9, at its leaf, below so many internal nodes, or at the first fault.
@@ -360,21 +347,20 @@ pub enum Search {
     Violation(Position),
 }
 
+#[tactic(auto, unfolding(crate::specs::Descent::seek, crate::specs::Descent::search_of))]
 pub fn find_violation(card: &[u32], n: usize, key: u32, root: usize) -> Search
     requires { (length card.now ≡ 8 + 24 * n) × (n ≤ greatest_nodes) }
     ensures { result ≡ seek card.now n key depth_limit (root_position root) }
 {
     match descend(card, n, key, root, true) {
         End::Refused => Search::Refused,
-        End::Leaf {
-            position: _,
-            depth: _,
-        } => Search::Balanced,
+        End::Leaf { .. } => Search::Balanced,
         End::Fault(p) => Search::Violation(p),
     }
 }
 
 // The run above the children of a node with so many.
+#[tactic(auto, unfolding(card::specs::Layout::run_below))]
 fn run_below(count: usize, run: usize) -> usize
     requires { run ≤ depth_limit }
     ensures { result ≡ run_below count run }
@@ -390,8 +376,7 @@ pub fn run_above(card: &[u32], n: usize, key: u32, root: usize) -> usize
 {
     let mut m = root;
     let mut run: usize = 0;
-    let mut left: usize = card::DEPTH_LIMIT;
-    loop {
+    for _ in 0..card::DEPTH_LIMIT + 1 {
         if is_outside(n, m) {
             return run;
         }
@@ -408,39 +393,33 @@ pub fn run_above(card: &[u32], n: usize, key: u32, root: usize) -> usize
             }
             Down::Inner { index: _, child } => {
                 run = run_below(card::child_count(node), run);
-                if left == 0 {
-                    return run;
-                }
-                left -= 1;
                 m = child;
             }
         }
     }
+    run
 }
 
 // The leaf that an update's key leads to, the word that links to it, and how many 11-child nodes stand without a break
-// straight above it; or refusal 9.
+// straight above it.
 #[derive(Clone, Copy)]
-pub enum Landing {
-    Refused,
-    Leaf {
-        node: usize,
-        link: usize,
-        run: usize,
-    },
+pub struct Landing {
+    pub node: usize,
+    pub link: usize,
+    pub run: usize,
 }
 
-pub fn find_landing(card: &[u32], n: usize, key: u32, root: usize) -> Landing
+// None is refusal 9.
+pub fn find_landing(card: &[u32], n: usize, key: u32, root: usize) -> Option<Landing>
     requires { (length card.now ≡ 8 + 24 * n) × (n ≤ greatest_nodes) }
     ensures { result ≡ landing_of card.now (way_from card.now n key depth_limit (root_position root)) }
 {
-    match descend(card, n, key, root, false) {
-        End::Refused => Landing::Refused,
-        End::Fault(_) => Landing::Refused,
-        End::Leaf { position, depth: _ } => Landing::Leaf {
-            node: position.node,
-            link: position.link,
-            run: run_above(card, n, key, root),
-        },
-    }
+    let End::Leaf { position, .. } = descend(card, n, key, root, false) else {
+        return None;
+    };
+    Some(Landing {
+        node: position.node,
+        link: position.link,
+        run: run_above(card, n, key, root),
+    })
 }

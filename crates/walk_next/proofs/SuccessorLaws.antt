@@ -1,8 +1,8 @@
 -- Laws of the next pair: one for each branch of the code.
 use mathlib.Core.Path.{◌≡◌, refl, sym, ◌∙◌, ap, ap₂, subst}
-use mathlib.Core.Bool.{Bool, true, false, not}
+use mathlib.Core.Bool.{true, false}
 use mathlib.Core.List.{List, ◌∷◌, [], ◌++◌}
-use mathlib.Core.Option.{Option, none, some}
+use mathlib.Core.Option.{Option as Maybe, none, some}
 use Prim.Native.Nat.{ℕ, zero, suc, ◌+◌, ◌≤◌, ◌<◌}
 use native.Mathlib.Omega.{arith}
 use lib.ListN.{length, get_or}
@@ -16,22 +16,21 @@ use Rattle.card.proofs.NodeLaws.{leaf_from, leaf_start, leaf_next, leaf_end}
 use Rattle.laws.specs.Cases.{pick}
 use Rattle.laws.proofs.Cases.{order, impossible}
 use Rattle.walk.specs.Descent.{slot_of, root_position, Way, way_from, way, leaf_of, depth_of, beside_all}
-use Rattle.walk.specs.declared.Slot.TheVariants.{At, Absent as NoSlot}
 use Rattle.walk.proofs.Along.{way_depth_le}
 use Rattle.walk.proofs.LineWays.{way_from_seen, way_seen, beside_seen}
-use Rattle.walk.specs.declared.Reached.{Reached}
 use Rattle.walk.proofs.DescentLaws.{slot_from, slot_start, slot_here, slot_next}
-use Rattle.walk.specs.declared.Reached.TheVariants.{Refused as NotReached, Leaf as ReachedLeaf}
-use Rattle.walk_next.specs.Successor.{IsKey, nearer_key, nearer, nearer_above, least_above, least_of, found, next_in_leaf, in_next_leaf, or_next_leaf, next_along, next_in, next_of}
+use Rattle.walk_next.specs.Successor.{IsKey, nearer_key, nearer, nearer_above, least_above, found, next_in_leaf, in_next_leaf, or_next_leaf, next_along, next_in, next_of}
 use Rattle.walk_next.specs.Successor.{carried, next_depth}
-use Rattle.walk_next.specs.declared.Least.{Least}
 use Rattle.walk_next.specs.declared.Successor.{Successor}
 use Rattle.walk_next.specs.declared.Successor.TheVariants.{Pair, Nothing, Refused}
+use Rattle.std.specs.Prelude.{Option, Some, None, IfSome, is_some, unwrap_or}
+use Rattle.walk.proofs.DescentLaws.{leaf_reached}
+use Rattle.walk.specs.declared.Reached.{Reached}
 
 -- ---- a slot more
 
 module _ (after : ℕ) (p : ℕ × ℕ) where
-  pub nearer_below : (least : Option (ℕ × ℕ)) → p.0 ≤ after → nearer_above after p least ≡ least
+  pub nearer_below : (least : Maybe (ℕ × ℕ)) → p.0 ≤ after → nearer_above after p least ≡ least
   unfolding nearer_above
   nearer_below least h = rw (le-ltb after p.0 h)
 
@@ -62,28 +61,17 @@ module _ (after : ℕ) (node : List ℕ) (l : length node ≡ 24) where
   pub least_slot : (i : ℕ) → i < 11 → least_above after (leaf_from node i) ≡ nearer_above after (get_or node (1 + i) 0, get_or node (12 + i) 0) (least_above after (leaf_from node (i + 1)))
   least_slot i h = ap (least_above after) (leaf_next node l i h) ∙ slot_more after (get_or node (1 + i) 0) (get_or node (12 + i) 0) (leaf_from node (i + 1))
 
--- ---- the nearest pair so far, as the code holds it
-
-module _ (l : Least) where
-  pub least_none : l.key ≡ key_limit → least_of l ≡ none
-  unfolding least_of
-  least_none e = simp (eq-eqb l.key key_limit e)
-
-  pub least_some : (l.key ≡ key_limit → ⊥) → least_of l ≡ some (l.key, l.value)
-  unfolding least_of
-  least_some h = simp (ne_eqb l.key key_limit h)
-
 -- ---- its key
 
-pub key_le : (o : Option (ℕ × ℕ)) (r : ℕ) → IsKey o r → r ≤ key_limit
+pub key_le : (o : Maybe (ℕ × ℕ)) (r : ℕ) → IsKey o r → r ≤ key_limit
 key_le none r h = omega arith
 key_le (some q) r h = omega (arith, h.1)
 
-pub key_none : (o : Option (ℕ × ℕ)) (r : ℕ) → IsKey o r → r ≡ key_limit → o ≡ none
+pub key_none : (o : Maybe (ℕ × ℕ)) (r : ℕ) → IsKey o r → r ≡ key_limit → o ≡ none
 key_none none r h e = refl
 key_none (some q) r h e = absurd (omega (arith, h.1))
 
-pub key_some : (o : Option (ℕ × ℕ)) (r : ℕ) → IsKey o r → (r ≡ key_limit → ⊥) → (v : ℕ) × (o ≡ some (r, v))
+pub key_some : (o : Maybe (ℕ × ℕ)) (r : ℕ) → IsKey o r → (r ≡ key_limit → ⊥) → (v : ℕ) × (o ≡ some (r, v))
 key_some none r h p = absurd (p h)
 key_some (some q) r h p = (q.1, ap (λ (k : ℕ). some (k, q.1)) (sym h.0))
 
@@ -102,26 +90,26 @@ module _ (after k least : ℕ) where
 
 -- a slot more
 module _ (after k v : ℕ) (word : k < key_limit) where
-  pub key_nearer : (o : Option (ℕ × ℕ)) (least : ℕ) → IsKey o least → IsKey (nearer_above after (k, v) o) (nearer_key after k least)
-  key_nearer o least h = order after k (λ l. above o h l) (λ l. subst (λ (x : Option (ℕ × ℕ)). IsKey x (nearer_key after k least)) (sym (nearer_below after (k, v) o l))
+  pub key_nearer : (o : Maybe (ℕ × ℕ)) (least : ℕ) → IsKey o least → IsKey (nearer_above after (k, v) o) (nearer_key after k least)
+  key_nearer o least h = order after k (λ l. above o h l) (λ l. subst (λ (x : Maybe (ℕ × ℕ)). IsKey x (nearer_key after k least)) (sym (nearer_below after (k, v) o l))
       (subst (IsKey o) (sym (key_below after k least l)) h))
     where
-      now : (p : Option (ℕ × ℕ)) → nearer_above after (k, v) p ≡ some (k, v) → after < k → k ≤ least → IsKey (nearer_above after (k, v) p) (nearer_key after k least)
-      now p e l s = subst (λ (x : Option (ℕ × ℕ)). IsKey x (nearer_key after k least)) (sym e) (key_now after k least l s, omega (arith, key_now after k least l s))
+      now : (p : Maybe (ℕ × ℕ)) → nearer_above after (k, v) p ≡ some (k, v) → after < k → k ≤ least → IsKey (nearer_above after (k, v) p) (nearer_key after k least)
+      now p e l s = subst (λ (x : Maybe (ℕ × ℕ)). IsKey x (nearer_key after k least)) (sym e) (key_now after k least l s, omega (arith, key_now after k least l s))
 
-      above : (p : Option (ℕ × ℕ)) → IsKey p least → after < k → IsKey (nearer_above after (k, v) p) (nearer_key after k least)
+      above : (p : Maybe (ℕ × ℕ)) → IsKey p least → after < k → IsKey (nearer_above after (k, v) p) (nearer_key after k least)
       above none g l = now none (nearer_first after (k, v) l) l (omega arith)
       above (some q) g l =
           order least k
-          (λ s. subst (λ (x : Option (ℕ × ℕ)). IsKey x (nearer_key after k least)) (sym (nearer_other after (k, v) q l (omega (arith, g.0))))
+          (λ s. subst (λ (x : Maybe (ℕ × ℕ)). IsKey x (nearer_key after k least)) (sym (nearer_other after (k, v) q l (omega (arith, g.0))))
           (key_other after k least l s ∙ g.0, omega (arith, key_other after k least l s, g.1)))
           (λ s. now (some q) (nearer_now after (k, v) q l (omega (arith, g.0))) l s)
 
 -- ---- the slot of the pair: the first one with its key
 
-abbrev SlotHeld : List ℕ → ℕ → ℕ → Option (ℕ × ℕ) → Type 0
+abbrev SlotHeld : List ℕ → ℕ → ℕ → Maybe (ℕ × ℕ) → Type 0
 SlotHeld node after i none = Unit {0}
-SlotHeld node after i (some q) = (after < q.0) × (s : ℕ) × (slot_from node q.0 i ≡ At s) × (q.1 ≡ get_or node (12 + s) 0)
+SlotHeld node after i (some q) = (after < q.0) × (s : ℕ) × (slot_from node q.0 i ≡ Some s) × (q.1 ≡ get_or node (12 + s) 0)
 
 module _ (node : List ℕ) (len : length node ≡ 24) (after i : ℕ) (below : i < 11) where
   slot_kept : (q : ℕ × ℕ) → SlotHeld node after (i + 1) (some q) → (get_or node (1 + i) 0 ≡ q.0 → ⊥) → SlotHeld node after i (some q)
@@ -130,7 +118,7 @@ module _ (node : List ℕ) (len : length node ≡ 24) (after i : ℕ) (below : i
   slot_now : after < get_or node (1 + i) 0 → SlotHeld node after i (some (get_or node (1 + i) 0, get_or node (12 + i) 0))
   slot_now l = (l, i, slot_here node len (get_or node (1 + i) 0) i below refl, refl)
 
-  slot_step : (o : Option (ℕ × ℕ)) → SlotHeld node after (i + 1) o → SlotHeld node after i (nearer_above after (get_or node (1 + i) 0, get_or node (12 + i) 0) o)
+  slot_step : (o : Maybe (ℕ × ℕ)) → SlotHeld node after (i + 1) o → SlotHeld node after i (nearer_above after (get_or node (1 + i) 0, get_or node (12 + i) 0) o)
   slot_step none h =
       order after (get_or node (1 + i) 0) (λ l. subst (SlotHeld node after i) (sym (nearer_first after _ l)) (slot_now l))
       (λ l. subst (SlotHeld node after i) (sym (nearer_below after _ none l)) tt)
@@ -147,15 +135,15 @@ slots_held node len after (suc j) i e =
     subst (SlotHeld node after i) (sym (least_slot after node len i (omega arith)))
     (slot_step node len after i (omega arith) (least_above after (leaf_from node (i + 1))) (slots_held node len after j (i + 1) (omega arith)))
 
-pub least_at : (node : List ℕ) → length node ≡ 24 → (after k v i : ℕ) → least_above after (leaf_pairs node) ≡ some (k, v) → slot_of node k ≡ At i → v ≡ get_or node (12 + i) 0
+pub least_at : (node : List ℕ) → length node ≡ 24 → (after k v i : ℕ) → least_above after (leaf_pairs node) ≡ some (k, v) → slot_of node k ≡ Some i → v ≡ get_or node (12 + i) 0
 least_at node len after k v i e at =
     let h = subst (SlotHeld node after 0) (ap (least_above after) (leaf_start node) ∙ e) (slots_held node len after 11 0 refl) in
     h.3 ∙ ap (λ (x : ℕ). get_or node (12 + x) 0) (same_slot (sym h.2 ∙ sym (slot_start node k) ∙ at))
   where
-    same_slot : {a b : ℕ} → At a ≡ At b → a ≡ b
+    same_slot : {a b : ℕ} → Some a ≡ Some b → a ≡ b
     same_slot q = cc
 
-pub least_found : (node : List ℕ) → length node ≡ 24 → (after k v : ℕ) → least_above after (leaf_pairs node) ≡ some (k, v) → slot_of node k ≡ NoSlot → ⊥
+pub least_found : (node : List ℕ) → length node ≡ 24 → (after k v : ℕ) → least_above after (leaf_pairs node) ≡ some (k, v) → slot_of node k ≡ None → ⊥
 least_found node len after k v e absent =
     let h = subst (SlotHeld node after 0) (ap (least_above after) (leaf_start node) ∙ e) (slots_held node len after 11 0 refl) in
     let z = sym h.2 ∙ sym (slot_start node k) ∙ absent in impossible (cc)
@@ -173,58 +161,49 @@ module _ (card : List ℕ) (n after beside : ℕ) where
 
 -- in the leaf that a way ends at
 module _ (card : List ℕ) (after : ℕ) (w : Way) where
-  pub in_no_leaf : leaf_of w ≡ NotReached → next_in_leaf card after (leaf_of w) ≡ Refused 9
+  pub in_no_leaf : leaf_of w ≡ None → next_in_leaf card after (leaf_of w) ≡ Refused 9
   unfolding next_in_leaf
   in_no_leaf e = ap (next_in_leaf card after) e
 
-  pub in_leaf : (m depth : ℕ) → leaf_of w ≡ ReachedLeaf m depth → (o : Option (ℕ × ℕ)) → least_above after (leaf_pairs (node_at card m)) ≡ o
+  pub in_leaf : (m depth : ℕ) → leaf_of w ≡ leaf_reached m depth → (o : Maybe (ℕ × ℕ)) → least_above after (leaf_pairs (node_at card m)) ≡ o
       → next_in_leaf card after (leaf_of w) ≡ found o
   unfolding next_in_leaf
   in_leaf m depth e o q = ap (next_in_leaf card after) e ∙ ap found q
 
--- the second round, and the first, as the code tells them
-pub second_round : (own : Bool) → not own ≡ true → own ≡ false
-second_round true e = impossible (cc)
-second_round false e = refl
-
-pub first_round : (own : Bool) → not own ≡ false → own ≡ true
-first_round true e = refl
-first_round false e = impossible (cc)
-
 -- what a leaf's answer comes to in the round of the number's own leaf, and in the second one
-unfoldable pub in_round : Bool → List ℕ → ℕ → ℕ → Way → Successor → Successor
-in_round true card n after w s = or_next_leaf card n after w s
-in_round false card n after w s = s
+unfoldable pub in_round : Option ℕ → List ℕ → ℕ → ℕ → Way → Successor → Successor
+in_round None card n after w s = or_next_leaf card n after w s
+in_round (Some depth) card n after w s = s
 
 module _ (card : List ℕ) (n after : ℕ) (w : Way) where
-  pub round_first : next_along card n after w ≡ in_round true card n after w (next_in_leaf card after (leaf_of w))
+  pub round_first : next_along card n after w ≡ in_round None card n after w (next_in_leaf card after (leaf_of w))
   unfolding in_round next_along
   round_first = refl
 
-  pub round_refused : (own : Bool) (r : ℕ) → in_round own card n after w (Refused r) ≡ Refused r
+  pub round_refused : (own : Option ℕ) (r : ℕ) → in_round own card n after w (Refused r) ≡ Refused r
   unfolding in_round or_next_leaf
-  round_refused true r = refl
-  round_refused false r = refl
+  round_refused None r = refl
+  round_refused (Some depth) r = refl
 
-  pub round_pair : (own : Bool) (k v : ℕ) → in_round own card n after w (Pair k v) ≡ Pair k v
+  pub round_pair : (own : Option ℕ) (k v : ℕ) → in_round own card n after w (Pair k v) ≡ Pair k v
   unfolding in_round or_next_leaf
-  round_pair true k v = refl
-  round_pair false k v = refl
+  round_pair None k v = refl
+  round_pair (Some depth) k v = refl
 
-  pub round_last : (own : Bool) → own ≡ false → in_round own card n after w Nothing ≡ Nothing
+  pub round_last : (own : Option ℕ) → is_some own ≡ true → in_round own card n after w Nothing ≡ Nothing
   unfolding in_round
-  round_last true e = impossible (cc)
-  round_last false e = refl
+  round_last None e = impossible (cc)
+  round_last (Some depth) e = refl
 
-  pub round_on : (own : Bool) → own ≡ true → in_round own card n after w Nothing ≡ in_next_leaf card n after (beside_all card after 0 w.inner)
+  pub round_on : (own : Option ℕ) → is_some own ≡ false → in_round own card n after w Nothing ≡ in_next_leaf card n after (beside_all card after 0 w.inner)
   unfolding in_round or_next_leaf
-  round_on true e = refl
-  round_on false e = impossible (cc)
+  round_on None e = refl
+  round_on (Some depth) e = impossible (cc)
 
-in_leaf_seen : (line : ℕ) (card : List ℕ) (after : ℕ) (r : Reached) → next_in_leaf (seen line card) after r ≡ next_in_leaf card after r
+in_leaf_seen : (line : ℕ) (card : List ℕ) (after : ℕ) (r : Option Reached) → next_in_leaf (seen line card) after r ≡ next_in_leaf card after r
 unfolding next_in_leaf
-in_leaf_seen line card after NotReached = refl
-in_leaf_seen line card after (ReachedLeaf m depth) = rw (seen_node line card m)
+in_leaf_seen line card after None = refl
+in_leaf_seen line card after (Some r) = rw (seen_node line card r.node)
 
 in_next_seen : (line : ℕ) (card : List ℕ) (n after beside : ℕ) → in_next_leaf (seen line card) n after beside ≡ in_next_leaf card n after beside
 unfolding in_next_leaf
@@ -294,11 +273,11 @@ unfolding next_depth
 next_depth_le greatest line card after = carried_le _ depth_limit (next_of greatest line card after) (way_depth_le (seen line card) (nodes_of_length greatest (length card)) after)
 
 -- what is told of it in the first round and kept in the second
-pub own_depth : (card : List ℕ) (n after root key from depth first : ℕ) (own : Bool)
-    → (own ≡ true → (from ≡ root) × (key ≡ after)) → (own ≡ false → first ≡ depth_of (leaf_of (way_from card n after depth_limit (root_position root))))
-    → (m : ℕ) → leaf_of (way_from card n key depth_limit (root_position from)) ≡ ReachedLeaf m depth
-    → pick own depth first ≡ depth_of (leaf_of (way_from card n after depth_limit (root_position root)))
+pub own_depth : (card : List ℕ) (n after root key from depth : ℕ) (own : Option ℕ)
+    → (is_some own ≡ false → (from ≡ root) × (key ≡ after)) → IfSome own (λ (d : ℕ). d ≡ depth_of (leaf_of (way_from card n after depth_limit (root_position root))))
+    → (m : ℕ) → leaf_of (way_from card n key depth_limit (root_position from)) ≡ leaf_reached m depth
+    → unwrap_or own depth ≡ depth_of (leaf_of (way_from card n after depth_limit (root_position root)))
 unfolding depth_of
-own_depth card n after root key from depth first true at kept m e =
+own_depth card n after root key from depth None at kept m e =
     ap depth_of (sym e) ∙ ap₂ (λ (k r : ℕ). depth_of (leaf_of (way_from card n k depth_limit (root_position r)))) (at refl).1 (at refl).0
-own_depth card n after root key from depth first false at kept m e = kept refl
+own_depth card n after root key from depth (Some first) at kept m e = kept

@@ -1,37 +1,36 @@
 -- Document 02, W-201: "Given any number from 0 up, the call answers the pair with the smallest key greater than it, or "none"
 -- exactly when the table holds no such key."
-use Rattle.std.specs.Prelude.{◌≡◌, List, [], ◌∷◌, ℕ, zero, suc, ◌<◌, length, eqb, ltb}
-use Rattle.std.proofs.Math.Option.{Option, none, some}
+use Rattle.std.specs.Prelude.{◌≡◌, List, [], ◌∷◌, ℕ, zero, suc, ◌<◌, length, eqb, ltb, Option, Some, None}
+use Rattle.std.proofs.Math.Option.{Option as Maybe, none, some}
 use Rattle.laws.specs.Cases.{pick}
 use Rattle.card.specs.Lines.{has_line, seen}
 use Rattle.card.specs.Header.{card_refusal, nodes_of_length}
 use Rattle.card.specs.Layout.{depth_limit, key_limit, node_at, leaf_pairs}
 use Rattle.card.specs.Replies.{Reply, refusal, nothing, next}
 use Rattle.walk.specs.Descent.{root_position, Way, way_from, way, leaf_of, depth_of, beside_all}
-use Rattle.walk.specs.declared.Reached.{Reached}
-use Rattle.walk.specs.declared.Reached.TheVariants.{Refused as NotReached, Leaf as ReachedLeaf}
 use Rattle.walk_next.specs.declared.Least.{Least}
 use Rattle.walk_next.specs.declared.Successor.{Successor}
 use Rattle.walk_next.specs.declared.Successor.TheVariants.{Pair, Nothing, Refused}
+use Rattle.walk.specs.declared.Reached.{Reached}
 
 -- ---- in a leaf
 
 -- of two pairs the one with the smaller key
-unfoldable pub nearer : ℕ × ℕ → Option (ℕ × ℕ) → Option (ℕ × ℕ)
+unfoldable pub nearer : ℕ × ℕ → Maybe (ℕ × ℕ) → Maybe (ℕ × ℕ)
 nearer p none = some p
 nearer p (some q) = pick (ltb q.0 p.0) (some q) (some p)
 
 -- a pair more, where its key is greater than the number
-unfoldable pub nearer_above : ℕ → ℕ × ℕ → Option (ℕ × ℕ) → Option (ℕ × ℕ)
+unfoldable pub nearer_above : ℕ → ℕ × ℕ → Maybe (ℕ × ℕ) → Maybe (ℕ × ℕ)
 nearer_above after p least = pick (ltb after p.0) (nearer p least) least
 
 -- "the pair with the smallest key greater than it", of a list of pairs
-unfoldable pub least_above : ℕ → List (ℕ × ℕ) → Option (ℕ × ℕ)
+unfoldable pub least_above : ℕ → List (ℕ × ℕ) → Maybe (ℕ × ℕ)
 least_above after [] = none
 least_above after (p ∷ ps) = nearer_above after p (least_above after ps)
 
 -- its key, and 2^32, above every key, where there is none
-abbrev pub IsKey : Option (ℕ × ℕ) → ℕ → Type 0
+abbrev pub IsKey : Maybe (ℕ × ℕ) → ℕ → Type 0
 IsKey none key = key ≡ key_limit
 IsKey (some p) key = (key ≡ p.0) × (key < key_limit)
 
@@ -39,20 +38,21 @@ IsKey (some p) key = (key ≡ p.0) × (key < key_limit)
 unfoldable pub nearer_key : ℕ → ℕ → ℕ → ℕ
 nearer_key after key least = pick (ltb after key) (pick (ltb least key) least key) least
 
--- the pair as the code holds it: a key of 2^32 is none
-unfoldable pub least_of : Least → Option (ℕ × ℕ)
-least_of l = pick (eqb l.key key_limit) none (some (l.key, l.value))
+-- the pair as the code holds it
+unfoldable pub least_of : Option Least → Maybe (ℕ × ℕ)
+least_of None = none
+least_of (Some l) = some (l.key, l.value)
 
 -- ---- the call
 
-unfoldable pub found : Option (ℕ × ℕ) → Successor
+unfoldable pub found : Maybe (ℕ × ℕ) → Successor
 found none = Nothing
 found (some p) = Pair p.0 p.1
 
 -- in the leaf that was reached
-unfoldable pub next_in_leaf : List ℕ → ℕ → Reached → Successor
-next_in_leaf card after NotReached = Refused 9
-next_in_leaf card after (ReachedLeaf m depth) = found (least_above after (leaf_pairs (node_at card m)))
+unfoldable pub next_in_leaf : List ℕ → ℕ → Option Reached → Successor
+next_in_leaf card after None = Refused 9
+next_in_leaf card after (Some r) = found (least_above after (leaf_pairs (node_at card r.node)))
 
 -- in the first leaf of the node that stands right after another's way, where there is one: key 0, which is below all routing keys,
 -- takes first children

@@ -3,14 +3,11 @@
 #![tactic(auto)]
 
 ghost use Rattle.std.specs.Prelude.{◌≡◌, ◌≤◌, length};
-ghost use Rattle.laws.specs.Cases.{pick};
-ghost use Rattle.card.specs.Layout.{greatest_nodes, depth_limit, key_limit, leaf_pairs};
+ghost use Rattle.card.specs.Layout.{greatest_nodes, depth_limit, leaf_pairs};
 ghost use Rattle.card.specs.Header.{Sized};
 ghost use Rattle.walk.specs.Descent.{root_position, way_from, leaf_of, depth_of};
 ghost use Rattle.walk_next.specs.Successor.{IsKey, nearer_key, least_above, least_of, next_along, next_of, carried, next_depth};
 ghost use Rattle.walk_next.specs.declared.Successor.TheVariants.{Refused};
-
-use walk::{Beside, Slot};
 
 // What the call answers.
 #[derive(Clone, Copy)]
@@ -21,7 +18,8 @@ pub enum Successor {
 }
 
 // The smallest key above a number, of the slots looked at so far; 2^32, above every key, where there is none. One slot more: an empty
-// one has key word 0, which is above no number.
+// one has key word 0, which is above no number. It is no Option: unrolled, the eleven slots are then choices of one number and not of two.
+#[tactic(auto, unfolding(crate::specs::Successor::nearer_key))]
 fn nearer(least: u64, key: u32, after: u32) -> u64
     ensures { result ≡ nearer_key after key least }
 {
@@ -40,39 +38,34 @@ fn least_key(node: &[u32], after: u32) -> u64
     ensures { IsKey (least_above after (leaf_pairs node.now)) result }
 {
     let mut least = card::KEY_LIMIT;
-    let mut i: usize = card::SLOTS;
-    while 0 < i {
-        i -= 1;
+    for i in (0..card::SLOTS).rev() {
         least = nearer(least, node[card::KEYS + i], after);
     }
     least
 }
 
-// The pair with that key, and its value: of the first slot that has it, looked for only now, since a value carried along took 100
+// The pair with that key: its value is that of the first slot that has it, looked for only now, since a value carried along took 100
 // instructions more.
 #[derive(Clone, Copy)]
 pub struct Least {
-    pub key: u64,
+    pub key: u32,
     pub value: u32,
 }
 
-fn least_above(node: &[u32], after: u32) -> Least
+fn least_above(node: &[u32], after: u32) -> Option<Least>
     requires { length node.now ≡ 24 }
-    ensures { (least_of result ≡ least_above after (leaf_pairs node.now)) × (result.key ≤ key_limit) }
+    ensures { least_of result ≡ least_above after (leaf_pairs node.now) }
 {
-    let key = least_key(node, after);
-    if key != card::KEY_LIMIT {
-        if let Slot::At(i) = walk::find_slot(node, key as u32) {
-            return Least {
-                key,
-                value: node[card::VALUES + i],
-            };
-        }
+    let least = least_key(node, after);
+    if least == card::KEY_LIMIT {
+        return None;
     }
-    Least {
-        key: card::KEY_LIMIT,
-        value: 0,
-    }
+    let key = least as u32;
+    let slot = walk::find_slot(node, key)?;
+    Some(Least {
+        key,
+        value: node[card::VALUES + slot],
+    })
 }
 
 // What the call answers, and beside it how many internal nodes the given number's own way passed, also where the answer is in the next
@@ -93,13 +86,6 @@ fn refused(refusal: u32) -> NextPair
     }
 }
 
-// The depth of the number's own leaf: that of the first way, and not of the second.
-fn own_depth(own: bool, depth: usize, first: usize) -> usize
-    ensures { result ≡ pick own depth first }
-{
-    if own { depth } else { first }
-}
-
 // In the leaf that the number leads to, else in the first leaf of the node that stands right after the way there, to which a second way
 // leads, by first children. The two ways are rounds of one loop: as two calls they took a third more instructions.
 fn next_in(card: &[u32], n: usize, after: u32, root: usize) -> NextPair
@@ -109,47 +95,31 @@ fn next_in(card: &[u32], n: usize, after: u32, root: usize) -> NextPair
 {
     let mut from = root;
     let mut key = after;
-    let mut is_own = true;
-    let mut first: usize = 0;
+    // the depth of the number's own leaf, in the second round: that of the first way, and not of the second
+    let mut own: Option<usize> = None;
     loop {
-        match walk::find_beside(card, n, key, from) {
-            Beside::Refused => {
-                return refused(9);
-            }
-            Beside::Leaf {
-                node,
-                beside,
-                depth,
-            } => {
-                let told = own_depth(is_own, depth, first);
-                let least = least_above(card::node_at(card, node), after);
-                if least.key != card::KEY_LIMIT {
-                    return NextPair {
-                        successor: Successor::Pair {
-                            key: least.key as u32,
-                            value: least.value,
-                        },
-                        depth: told,
-                    };
-                }
-                if !is_own {
-                    return NextPair {
-                        successor: Successor::Nothing,
-                        depth: told,
-                    };
-                }
-                if beside == 0 {
-                    return NextPair {
-                        successor: Successor::Nothing,
-                        depth: told,
-                    };
-                }
-                from = beside;
-                key = 0;
-                is_own = false;
-                first = told;
-            }
+        let Some(leaf) = walk::find_beside(card, n, key, from) else {
+            return refused(9);
+        };
+        let told = own.unwrap_or(leaf.depth);
+        if let Some(pair) = least_above(card::node_at(card, leaf.node), after) {
+            return NextPair {
+                successor: Successor::Pair {
+                    key: pair.key,
+                    value: pair.value,
+                },
+                depth: told,
+            };
         }
+        if own.is_some() || leaf.beside == 0 {
+            return NextPair {
+                successor: Successor::Nothing,
+                depth: told,
+            };
+        }
+        from = leaf.beside;
+        key = 0;
+        own = Some(told);
     }
 }
 

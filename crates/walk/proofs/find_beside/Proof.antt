@@ -7,10 +7,9 @@ use lib.ListN.{length}
 use Rattle.card.specs.Layout.{depth_limit}
 use Rattle.walk.specs.Descent.{child_at, root_position, Way, past, way_from, beside_by}
 use Rattle.walk.proofs.DescentLaws.{inside, node_words, told, taken_le, onward, onward_none, onward_deeper, by_down, passed_inner, way_outside, way_at, root_node}
-use Rattle.walk.proofs.DescentLaws.{beside_below, beside_start, beside_nowhere, beside_stop, beside_leaf, beside_past}
+use Rattle.walk.proofs.DescentLaws.{leaf_beside, beside_below, beside_start, beside_nowhere, beside_stop, beside_leaf, beside_past}
 use Rattle.walk.specs.declared.Down.{Down}
 use Rattle.walk.specs.declared.Position.{Position}
-use Rattle.walk.specs.declared.Beside.TheVariants.{Leaf as LeafBeside}
 use Rattle.walk.proofs.find_beside.Statement.{statement}
 use Rattle.walk.proofs.find_beside.Tie as tie
 
@@ -69,7 +68,7 @@ enum_told-in-Leaf c = search rules
 returns-in-Leaf : tie.Need-returns-in-Leaf invariant-loop-n decreases-loop-n
 returns-in-Leaf c =
     let l = c.loop-n in
-    sym (rest c.before _ c.in-Leaf.is ∙ beside_leaf _ _ _ _ _ ∙ ap (λ (x : ℕ). LeafBeside x l.beside l.depth) l.invariant.2)
+    sym (rest c.before _ c.in-Leaf.is ∙ beside_leaf _ _ _ _ _ ∙ ap (λ (x : ℕ). leaf_beside x l.beside l.depth) l.invariant.2)
 
 enum_told-in-Childless : tie.Need-enum_told-in-Childless invariant-loop-n decreases-loop-n
 enum_told-in-Childless c = search rules

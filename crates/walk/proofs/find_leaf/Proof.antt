@@ -2,14 +2,13 @@
 use borrow.Author.Rules.{rules}
 use native.Mathlib.Omega.{arith}
 use mathlib.Core.Path.{◌≡◌, refl, sym, ◌∙◌, ap, ap₂}
-use Prim.Native.Nat.{ℕ, ◌+◌, ◌-◌, ◌≤◌}
+use Prim.Native.Nat.{◌+◌, ◌-◌, ◌≤◌}
 use lib.ListN.{length}
 use Rattle.card.specs.Layout.{depth_limit}
 use Rattle.walk.specs.Descent.{child_at, root_position, Way, past, way_from, reached_at, leaf_of}
-use Rattle.walk.proofs.DescentLaws.{inside, node_words, onward, onward_none, by_down, passed_inner, way_outside, way_at, root_node, deeper, deeper_none, leaf_on}
+use Rattle.walk.proofs.DescentLaws.{inside, node_words, onward, onward_none, by_down, passed_inner, way_outside, way_at, root_node, leaf_reached, deeper, deeper_none, leaf_on}
 use Rattle.walk.specs.declared.Down.{Down}
 use Rattle.walk.specs.declared.Position.{Position}
-use Rattle.walk.specs.declared.Reached.TheVariants.{Leaf as ReachedLeaf}
 use Rattle.walk.proofs.find_leaf.Statement.{statement}
 use Rattle.walk.proofs.find_leaf.Tie as tie
 
@@ -67,7 +66,7 @@ enum_told-in-Leaf c = search rules
 
 returns-in-Leaf : tie.Need-returns-in-Leaf invariant-loop-n decreases-loop-n
 unfolding leaf_of reached_at deeper past
-returns-in-Leaf c = sym (rest c.before _ c.in-Leaf.is ∙ ap₂ (λ (x d : ℕ). ReachedLeaf x d) c.loop-n.invariant.2 (omega arith))
+returns-in-Leaf c = sym (rest c.before _ c.in-Leaf.is ∙ ap₂ leaf_reached c.loop-n.invariant.2 (omega arith))
 
 enum_told-in-Childless : tie.Need-enum_told-in-Childless invariant-loop-n decreases-loop-n
 enum_told-in-Childless c = search rules
