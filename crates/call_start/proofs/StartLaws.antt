@@ -24,12 +24,8 @@ use Rattle.laws.specs.Cases.{pick}
 use Rattle.state.specs.Steps.{Handed, is_idle, no_beginning}
 use Rattle.call_start.specs.Starts.{format_of, start_refused, start_accepted, start_depth, start_landed, start_checked, start_of}
 use Rattle.state.specs.Memory.{Memory, resting}
-use Rattle.call_start.specs.Refusals.{is_slot, start_refusal, early_refusal, landing_refusal, due_refusal, due_depth, begun_by}
+use Rattle.call_start.specs.Refusals.{start_refusal, early_refusal, landing_refusal, due_refusal, due_depth, begun_by}
 use Rattle.call_change.specs.Updates.{landing, empty_reason, reason_in, insert_reason, split_need, room_for, start_room}
-use Rattle.walk.specs.declared.Slot.{Slot}
-use Rattle.walk.specs.declared.Slot.TheVariants.{At, Absent as NoSlot}
-use Rattle.walk.specs.declared.Landing.{Landing}
-use Rattle.walk.specs.declared.Landing.TheVariants.{Refused as NoLanding, Leaf as LandingAt}
 use Rattle.state.specs.Block.{depth_at, state_words, memory_in}
 use Rattle.state.specs.Blocks.{begun_block, started_block}
 use Rattle.state.specs.Clauses.{StartCall}
@@ -38,6 +34,8 @@ use Rattle.state.specs.declared.Doing.{Doing}
 use Rattle.state.specs.declared.Doing.TheVariants.{Formatting}
 use Rattle.state.specs.Begun.{Begun}
 use Rattle.state.specs.Begun.{Started, Refused as BegunRefused}
+use Rattle.std.specs.Prelude.{Option, Some, None, is_some}
+use Rattle.walk.specs.declared.Landing.{Landing}
 
 -- "1: length not 8 + 24 × N, N 4 to 600; or N not the state's"
 pub start_unsized : (greatest line : ℕ) (card : List ℕ) (nodes : ℕ) (idle : Bool) (key : ℕ) → (Sized greatest (length card) nodes → ⊥) → start_refusal greatest line card nodes idle key ≡ 1
@@ -128,8 +126,8 @@ pub no_depth : (w : Way) → w.leaf ≡ none → depth_of (leaf_of w) ≡ 0
 unfolding depth_of leaf_of reached_at
 no_depth w e = rw e refl
 
-module _ (greatest line : ℕ) (card : List ℕ) (m : Memory) (key : ℕ) (room : Landing → Bool) where
-  abbrev there : Landing
+module _ (greatest line : ℕ) (card : List ℕ) (m : Memory) (key : ℕ) (room : Option Landing → Bool) where
+  abbrev there : Option Landing
   there = landing (seen line card) m.nodes key
 
   pub due_early : (early_refusal greatest line card m key ≡ 0 → ⊥) → due_refusal greatest line card m key room ≡ early_refusal greatest line card m key
@@ -138,13 +136,13 @@ module _ (greatest line : ℕ) (card : List ℕ) (m : Memory) (key : ℕ) (room 
   pub due_landing : early_refusal greatest line card m key ≡ 0 → due_refusal greatest line card m key room ≡ landing_refusal (room there) there
   due_landing z = rw (eq-eqb (early_refusal greatest line card m key) 0 z) refl
 
-landed_due : (m : Memory) (doing : Doing) (depth : ℕ) (room : Bool) (l : Landing) → start_landed m doing depth room l ≡ begun_by (landing_refusal room l) depth m doing
+landed_due : (m : Memory) (doing : Doing) (depth : ℕ) (room : Bool) (l : Option Landing) → start_landed m doing depth room l ≡ begun_by (landing_refusal room l) depth m doing
 unfolding start_landed landing_refusal
-landed_due m doing depth room NoLanding = refl
-landed_due m doing depth true (LandingAt node link run) = refl
-landed_due m doing depth false (LandingAt node link run) = refl
+landed_due m doing depth room None = refl
+landed_due m doing depth true (Some l) = refl
+landed_due m doing depth false (Some l) = refl
 
-module _ (greatest line : ℕ) (card : List ℕ) (m : Memory) (key : ℕ) (doing : Doing) (room : Landing → Bool) where
+module _ (greatest line : ℕ) (card : List ℕ) (m : Memory) (key : ℕ) (doing : Doing) (room : Option Landing → Bool) where
   start_refused_lem : (early_refusal greatest line card m key ≡ 0 → ⊥) → start_of greatest line card m key doing room ≡ start_refused (early_refusal greatest line card m key) m
   unfolding start_refusal start_of start_checked
   start_refused_lem p =
@@ -187,42 +185,42 @@ start_lined greatest line card nodes idle key r =
     (eqb (header_refusal card nodes) 0) idle (has_line card line) (eqb key 0) (header_refusal card nodes) (λ c z. eqb-false (header_refusal card nodes) 0 c z) r)
 
 -- room for an insert: what a line's leaf has is what the card's has
-pub room_seen : (line : ℕ) (card : List ℕ) (key room : ℕ) (l : Landing) → start_room (seen line card) key room l ≡ start_room card key room l
+pub room_seen : (line : ℕ) (card : List ℕ) (key room : ℕ) (l : Option Landing) → start_room (seen line card) key room l ≡ start_room card key room l
 unfolding start_room
-room_seen line card key room NoLanding = refl
-room_seen line card key room (LandingAt node link run) = ap (λ (leaf : List ℕ). room_for room run (insert_reason leaf key)) (seen_node line card node)
+room_seen line card key room None = refl
+room_seen line card key room (Some l) = ap (λ (leaf : List ℕ). room_for room l.run (insert_reason leaf key)) (seen_node line card l.node)
 
-held_slot : (leaf : List ℕ) (run : ℕ) (room : ℕ) (t : Slot) → is_slot t ≡ true → room_for room run (reason_in leaf t) ≡ true
-unfolding is_slot room_for reason_in
-held_slot leaf run room (At i) h = refl
-held_slot leaf run room NoSlot h = impossible (cc)
+held_slot : (leaf : List ℕ) (run : ℕ) (room : ℕ) (t : Option ℕ) → is_some t ≡ true → room_for room run (reason_in leaf t) ≡ true
+unfolding room_for reason_in
+held_slot leaf run room (Some i) h = refl
+held_slot leaf run room None h = impossible (cc)
 
-pub absent_reason : (leaf : List ℕ) (t : Slot) → is_slot t ≡ false → reason_in leaf t ≡ empty_reason (slot_of leaf 0)
-unfolding is_slot reason_in
-absent_reason leaf (At i) h = impossible (cc)
-absent_reason leaf NoSlot h = refl
+pub absent_reason : (leaf : List ℕ) (t : Option ℕ) → is_some t ≡ false → reason_in leaf t ≡ empty_reason (slot_of leaf 0)
+unfolding reason_in
+absent_reason leaf (Some i) h = impossible (cc)
+absent_reason leaf None h = refl
 
-empty_slot : (run : ℕ) (room : ℕ) (t : Slot) → is_slot t ≡ true → room_for room run (empty_reason t) ≡ true
-unfolding is_slot room_for empty_reason
-empty_slot run room (At i) h = refl
-empty_slot run room NoSlot h = impossible (cc)
+empty_slot : (run : ℕ) (room : ℕ) (t : Option ℕ) → is_some t ≡ true → room_for room run (empty_reason t) ≡ true
+unfolding room_for empty_reason
+empty_slot run room (Some i) h = refl
+empty_slot run room None h = impossible (cc)
 
-full_slot : (run : ℕ) (room : ℕ) (t : Slot) → is_slot t ≡ false → room_for room run (empty_reason t) ≡ not (ltb room (split_need run))
-unfolding is_slot room_for empty_reason
-full_slot run room (At i) h = impossible (cc)
-full_slot run room NoSlot h = refl
+full_slot : (run : ℕ) (room : ℕ) (t : Option ℕ) → is_some t ≡ false → room_for room run (empty_reason t) ≡ not (ltb room (split_need run))
+unfolding room_for empty_reason
+full_slot run room (Some i) h = impossible (cc)
+full_slot run room None h = refl
 
 module _ (leaf : List ℕ) (key run : ℕ) (room : ℕ) where
-  pub room_held : is_slot (slot_of leaf key) ≡ true → room_for room run (insert_reason leaf key) ≡ true
+  pub room_held : is_some (slot_of leaf key) ≡ true → room_for room run (insert_reason leaf key) ≡ true
   unfolding insert_reason
   room_held e = held_slot leaf run room (slot_of leaf key) e
 
-  module _ (a : is_slot (slot_of leaf key) ≡ false) where
-    pub room_slot : is_slot (slot_of leaf 0) ≡ true → room_for room run (insert_reason leaf key) ≡ true
+  module _ (a : is_some (slot_of leaf key) ≡ false) where
+    pub room_slot : is_some (slot_of leaf 0) ≡ true → room_for room run (insert_reason leaf key) ≡ true
     unfolding insert_reason
     room_slot e = ap (room_for room run) (absent_reason leaf (slot_of leaf key) a) ∙ empty_slot run room (slot_of leaf 0) e
 
-    pub room_full : is_slot (slot_of leaf 0) ≡ false → room_for room run (insert_reason leaf key) ≡ not (ltb room (split_need run))
+    pub room_full : is_some (slot_of leaf 0) ≡ false → room_for room run (insert_reason leaf key) ≡ not (ltb room (split_need run))
     unfolding insert_reason
     room_full e = ap (room_for room run) (absent_reason leaf (slot_of leaf key) a) ∙ full_slot run room (slot_of leaf 0) e
 

@@ -1,12 +1,10 @@
 -- Document 01: starting to format and starting an update, with their refusals in the order of "Refusal by place".
-use Rattle.std.specs.Prelude.{Bool, true, false, List, ℕ, length, set, eqb}
+use Rattle.std.specs.Prelude.{Bool, true, false, List, ℕ, length, set, eqb, Option, Some, None}
 use Rattle.laws.specs.Cases.{pick}
 use Rattle.card.specs.Header.{nodes_of_length, header_refusal}
 use Rattle.card.specs.Layout.{formatted_root}
 use Rattle.card.specs.Lines.{has_line, seen}
 use Rattle.walk.specs.Descent.{way, leaf_of, depth_of}
-use Rattle.walk.specs.declared.Landing.{Landing}
-use Rattle.walk.specs.declared.Landing.TheVariants.{Refused as NoLanding, Leaf as LandingAt}
 use Rattle.card_family.specs.Families.{no_totals}
 use Rattle.card_free.specs.NodeSet.{all_nodes, count_true}
 use Rattle.call_change.specs.Updates.{landing, start_room}
@@ -16,6 +14,7 @@ use Rattle.state.specs.declared.Doing.TheVariants.{Formatting, Inserting, Deleti
 use Rattle.state.specs.declared.Phase.TheVariants.{NotBegun}
 use Rattle.state.specs.Begun.{Started, Refused as BegunRefused}
 use Rattle.state.specs.Steps.{is_idle, Handed, no_beginning}
+use Rattle.walk.specs.declared.Landing.{Landing}
 
 -- STARTING TO FORMAT. "Formatting needs no earlier state"; while it goes on the free nodes are those of the table it makes, and the
 -- root of that table is taken for the node given last (document 02, W-205); the totals are "0 while formatting" (W-204)
@@ -42,13 +41,13 @@ abbrev pub start_depth : ℕ → List ℕ → Memory → ℕ → ℕ
 start_depth line card m key = depth_of (leaf_of (way (seen line card) m.nodes key))
 
 -- "9: node number 0 or above N, kind not 1 to 3, no children, or more than 10 internal nodes"
-unfoldable pub start_landed : Memory → Doing → ℕ → Bool → Landing → Handed
-start_landed m doing depth room NoLanding = start_refused 9 m
-start_landed m doing depth room (LandingAt node link run) = pick room (start_accepted m doing depth) (start_refused 8 m)
+unfoldable pub start_landed : Memory → Doing → ℕ → Bool → Option Landing → Handed
+start_landed m doing depth room None = start_refused 9 m
+start_landed m doing depth room (Some l) = pick room (start_accepted m doing depth) (start_refused 8 m)
 
 -- "18: line number not one the card has, just before 6" (document 02, W-207); "8: key absent, leaf full, free nodes fewer than j + 5"; an
 -- update that is no insert always has room
-unfoldable pub start_checked : ℕ → List ℕ → Memory → ℕ → Doing → (Landing → Bool) → Handed
+unfoldable pub start_checked : ℕ → List ℕ → Memory → ℕ → Doing → (Option Landing → Bool) → Handed
 start_checked line card m key doing room =
     pick (is_idle m.doing)
     (pick (has_line card line)
@@ -57,7 +56,7 @@ start_checked line card m key doing room =
     (start_refused 18 m))
     (start_refused 7 m)
 
-unfoldable pub start_of : ℕ → ℕ → List ℕ → Memory → ℕ → Doing → (Landing → Bool) → Handed
+unfoldable pub start_of : ℕ → ℕ → List ℕ → Memory → ℕ → Doing → (Option Landing → Bool) → Handed
 start_of greatest line card m key doing room =
     pick (eqb (nodes_of_length greatest (length card)) 0) (start_refused 1 m)
     (pick (eqb (nodes_of_length greatest (length card)) m.nodes)

@@ -10,7 +10,7 @@ ghost use Rattle.card.specs.Layout.{greatest_nodes, depth_limit, node_at, format
 ghost use Rattle.card.specs.Lines.{IsLine, seen};
 ghost use Rattle.card_family.specs.Families.{family_count, no_totals};
 ghost use Rattle.card_free.specs.NodeSet.{word_count, capacity, nodes_of, all_nodes};
-ghost use Rattle.walk.specs.Descent.{slot_of, way, leaf_of, depth_of, run_over};
+ghost use Rattle.walk.specs.Descent.{way, leaf_of, depth_of, run_over};
 ghost use Rattle.laws.specs.Cases.{pick};
 ghost use Rattle.state.specs.declared.Doing.TheVariants.{Inserting, Deleting};
 ghost use Rattle.state.specs.declared.Phase.TheVariants.{NotBegun};
@@ -19,7 +19,7 @@ ghost use Rattle.state.specs.Begun.{told, Started as BegunStarted};
 ghost use Rattle.state.specs.Clauses.{OpenCall, StartCall};
 ghost use Rattle.call_change.specs.Updates.{landing, insert_reason, room_for};
 ghost use Rattle.call_start.specs.Starts.{format_of, room_of, start_accepted, insert_of, delete_of};
-ghost use Rattle.call_start.specs.Refusals.{start_refusal, is_slot, line_way, room_where, landing_refusal, due_refusal, due_depth};
+ghost use Rattle.call_start.specs.Refusals.{start_refusal, line_way, room_where, landing_refusal, due_refusal, due_depth};
 
 use card::Refusal;
 use card_family::FAMILIES;
@@ -28,7 +28,7 @@ use state::block::{
     store_totals, wide,
 };
 use state::{Begun, Doing, Phase};
-use walk::{End, Slot};
+use walk::End;
 
 // The refusals 1, 2, 3, 7, 18 and 6 of starting an update, in this order.
 fn check_start(
@@ -57,17 +57,6 @@ fn check_start(
     Ok(())
 }
 
-// Whether a leaf has a slot with the key word.
-fn has_word(leaf: &[u32], word: u32) -> bool
-    requires { length leaf.now ≡ 24 }
-    ensures { result ≡ is_slot (slot_of leaf.now word) }
-{
-    match walk::find_slot(leaf, word) {
-        Slot::At(_) => true,
-        Slot::Absent => false,
-    }
-}
-
 // "A splitting insert needs j + 5 free nodes." The 11-child nodes above leaf m of the line's table are counted only where it is full;
 // they may be any number here, so the 5 are taken from the free nodes.
 fn has_room(card: &[u32], state: &[u32], line: u32, m: usize, key: u32) -> bool
@@ -78,10 +67,7 @@ fn has_room(card: &[u32], state: &[u32], line: u32, m: usize, key: u32) -> bool
         (insert_reason (node_at card.now m) key) }
 {
     let leaf = card::node_at(card, m);
-    if has_word(leaf, key) {
-        return true;
-    }
-    if has_word(leaf, 0) {
+    if walk::find_slot(leaf, key).is_some() || walk::find_slot(leaf, 0).is_some() {
         return true;
     }
     let count = card_free::count(&state[FREE..PLACES]);
@@ -100,10 +86,7 @@ fn has_room_where(splits: bool, card: &[u32], state: &[u32], line: u32, m: usize
         (run_over card.now 0 (line_way line card.now (memory_in state.now).nodes key).inner)
         (insert_reason (node_at card.now m) key)) true }
 {
-    if splits {
-        return has_room(card, state, line, m, key);
-    }
-    true
+    !splits || has_room(card, state, line, m, key)
 }
 
 // The refusals 9, "node number 0 or above N, kind not 1 to 3, no children, or more than 10 internal nodes", and 8, "key absent, leaf full,

@@ -1,5 +1,5 @@
 -- `call_start::check_way` meets its contract.
-use mathlib.Core.Path.{◌≡◌, refl, ap, ap₂, sym, ◌∙◌}
+use mathlib.Core.Path.{◌≡◌, ap, ap₂, sym, ◌∙◌}
 use mathlib.Core.Bool.{Bool, true, false}
 use mathlib.Core.List.{List}
 use Prim.Native.Nat.{ℕ}
@@ -12,17 +12,18 @@ use Rattle.card.specs.Lines.{root_of, seen}
 use Rattle.card.proofs.LineLaws.{seen_node, seen_sized}
 use Rattle.walk.specs.Descent.{Way, root_position, way_from, run_over, leaf_of, depth_of, end_of}
 use Rattle.walk.specs.declared.Landing.{Landing}
-use Rattle.walk.specs.declared.Landing.TheVariants.{Refused as NoLanding, Leaf as LandingAt}
+use Rattle.std.specs.Prelude.{Option}
+use Rattle.walk.proofs.DescentLaws.{landing_at}
 use Rattle.walk.specs.declared.End.{End}
-use Rattle.walk.specs.declared.End.TheVariants.{Refused as EndRefused, Leaf as EndLeaf, Fault as EndFault}
+use Rattle.walk.specs.declared.End.TheVariants.{Leaf as EndLeaf}
 use Rattle.walk.specs.declared.Position.{Position}
-use Rattle.walk.proofs.DescentLaws.{unsought_reached, unsought_fault}
+use Rattle.walk.proofs.DescentLaws.{unsought_reached}
 use Rattle.walk.proofs.LineWays.{way_seen}
 use Rattle.state.specs.Block.{memory_in}
 use Rattle.state.specs.Memory.{Memory}
 use Rattle.call_start.specs.Refusals.{line_way, room_where, landing_refusal}
 use Rattle.call_start.specs.Starts.{room_of}
-use Rattle.call_change.proofs.LineChanges.{land_refused, land_leaf}
+use Rattle.call_change.proofs.LineChanges.{land_none, land_leaf}
 use Rattle.call_change.proofs.UpdateLaws.{landed}
 use Rattle.call_change.specs.Updates.{landing, insert_reason, room_for, start_room}
 use Rattle.call_start.proofs.check_way.Goals as goal
@@ -34,19 +35,12 @@ unfolding memory_in
 below line card state key n r e nodes root ends =
     sym (ends ∙ ap₂ (λ (k t : ℕ). end_of card false (way_from card k key depth_limit (root_position t))) nodes root)
 
--- a walk that seeks no violation and ends at no leaf is refused
-no_landing : (line : ℕ) (card : List ℕ) (n key : ℕ) (e : End) → end_of card false (line_way line card n key) ≡ e
-    → ((p : Position) (depth : ℕ) → e ≡ EndLeaf p depth → ⊥) → landing (seen line card) n key ≡ NoLanding
-no_landing line card n key EndRefused q other = land_refused line card n key q
-no_landing line card n key (EndLeaf p depth) q other = absurd (other p depth refl)
-no_landing line card n key (EndFault p) q other = absurd (unsought_fault _ _ _ q)
-
 -- in the leaf where it ends the refusal is 8, or none
 module _ (line : ℕ) (card : List ℕ) (m : Memory) (key : ℕ) (p : Position) (depth : ℕ) (ends : end_of card false (line_way line card m.nodes key) ≡ EndLeaf p depth) where
   abbrev run : ℕ
   run = run_over card 0 (line_way line card m.nodes key).inner
 
-  lands : landing (seen line card) m.nodes key ≡ LandingAt p.node p.link run
+  lands : landing (seen line card) m.nodes key ≡ landing_at p.node p.link run
   lands = land_leaf line card m.nodes key p _ ends
 
   leaf_refusal : (splits room : Bool) → room ≡ pick splits (room_for (room_of m) run (insert_reason (node_at card p.node) key)) true
@@ -55,7 +49,7 @@ module _ (line : ℕ) (card : List ℕ) (m : Memory) (key : ℕ) (p : Position) 
   leaf_refusal splits room e =
       ap (λ (b : Bool). pick b 0 8)
       (e ∙ ap (λ (x : List ℕ). pick splits (room_for (room_of m) run (insert_reason x key)) true) (sym (seen_node line card p.node)))
-      ∙ sym (ap (λ (l : Landing). landing_refusal (room_where splits (seen line card) key (room_of m) l) l) lands)
+      ∙ sym (ap (λ (l : Option Landing). landing_refusal (room_where splits (seen line card) key (room_of m) l) l) lands)
 
 pub root_of-requires : goal.root_of-requires
 root_of-requires c = (omega (arith, c.requires.1.words), c.requires.2)
@@ -76,9 +70,10 @@ unfolding landing_refusal
 returns-in_default c =
     let card = c.args.card.now in
     let m = memory_in c.args.state.now in
-    let none = no_landing c.args.line card m.nodes c.args.key c.descend.result (below _ _ c.args.state.now _ _ _ _ c.wide-nodes.ensures c.root_of.ensures c.descend.ensures) c.in_default.not-Leaf in
+    let ends = below _ _ c.args.state.now _ _ _ _ c.wide-nodes.ensures c.root_of.ensures c.descend.ensures in
+    let none = land_none c.args.line card m.nodes c.args.key (λ p depth e. c.in_default.not-Leaf p depth (sym ends ∙ e)) in
     record {
-      refused = sym (ap (λ (l : Landing). landing_refusal (room_where c.args.splits (seen c.args.line card) c.args.key (room_of m) l) l) none);
+      refused = sym (ap (λ (l : Option Landing). landing_refusal (room_where c.args.splits (seen c.args.line card) c.args.key (room_of m) l) l) none);
       depth = λ d e. impossible (cc);
     }
 
