@@ -16,7 +16,7 @@ use Rattle.walk.specs.Descent.{root_position, Way, way_from, way, leaf_of, depth
 use Rattle.walk.proofs.Along.{way_depth_le}
 use Rattle.walk.proofs.LineWays.{way_seen}
 use Rattle.call_find.specs.Find.{found_at, find_in, find_of, depth_in, find_depth}
-use Rattle.call_find.specs.declared.Found.TheVariants.{Refused as FoundRefused}
+use Rattle.call_find.specs.Found.{Refused as FoundRefused}
 use Rattle.std.specs.Prelude.{Option, Some, None}
 use Rattle.walk.specs.declared.Reached.{Reached}
 

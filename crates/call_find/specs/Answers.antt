@@ -1,7 +1,7 @@
 -- Document 01, "When an answer is an enum, a definition states this paper's number and values for each enum case."
 use Rattle.card.specs.Replies.{Reply, refusal, holds, absent}
-use Rattle.call_find.specs.declared.Found.{Found}
-use Rattle.call_find.specs.declared.Found.TheVariants.{Value as FoundValue, Absent as FoundAbsent, Refused as FoundRefused}
+use Rattle.call_find.specs.Found.{Found}
+use Rattle.call_find.specs.Found.{Value as FoundValue, Absent as FoundAbsent, Refused as FoundRefused}
 
 -- what a find answers
 unfoldable pub found_reply : Found → Reply

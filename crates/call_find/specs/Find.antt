@@ -5,8 +5,8 @@ use Rattle.card.specs.Layout.{node_at}
 use Rattle.card.specs.Lines.{has_line, seen}
 use Rattle.card.specs.Header.{nodes_of_length, card_refusal}
 use Rattle.walk.specs.Descent.{slot_of, way, leaf_of, depth_of}
-use Rattle.call_find.specs.declared.Found.{Found}
-use Rattle.call_find.specs.declared.Found.TheVariants.{Value as FoundValue, Absent as FoundAbsent, Refused as FoundRefused}
+use Rattle.call_find.specs.Found.{Found}
+use Rattle.call_find.specs.Found.{Value as FoundValue, Absent as FoundAbsent, Refused as FoundRefused}
 use Rattle.walk.specs.declared.Reached.{Reached}
 
 -- in a leaf: the value beside "the first slot whose key word equals the key"

@@ -3,8 +3,8 @@ use Rattle.std.specs.Prelude.{◌||◌, List, [], ℕ, ◌+◌, length, get_or, 
 use Rattle.laws.specs.Cases.{pick}
 use Rattle.card.specs.Replies.{Reply, refusal, absent, fetched}
 use Rattle.call_find.specs.Find.{find_of}
-use Rattle.call_find.specs.declared.Found.{Found as Look}
-use Rattle.call_find.specs.declared.Found.TheVariants.{Value, Absent as NotHeld, Refused as NoLook}
+use Rattle.call_find.specs.Found.{Found as Look}
+use Rattle.call_find.specs.Found.{Value, Absent as NotHeld, Refused as NoLook}
 use Rattle.call_record.specs.declared.Fetched.{Fetched}
 use Rattle.call_record.specs.declared.Fetched.TheVariants.{Found, Absent, Refused}
 

@@ -18,8 +18,8 @@ use Rattle.walk.specs.declared.Slot.TheVariants.{At, Absent as NoSlot}
 use Rattle.walk.specs.declared.Reached.{Reached}
 use Rattle.walk.specs.declared.Reached.TheVariants.{Refused as NotReached, Leaf as ReachedLeaf}
 use Rattle.call_find.specs.Find.{found_in, found_at, find_of, find_in}
-use Rattle.call_find.specs.declared.Found.{Found}
-use Rattle.call_find.specs.declared.Found.TheVariants.{Value as FoundValue, Absent as FoundAbsent, Refused as FoundRefused}
+use Rattle.call_find.specs.Found.{Found}
+use Rattle.call_find.specs.Found.{Value as FoundValue, Absent as FoundAbsent, Refused as FoundRefused}
 use Rattle.card.specs.Layout.{node_at, search_start}
 use Rattle.laws.proofs.Cases.{bool_cases}
 use Rattle.call_open.specs.Opening.{open_sound, open_checked, open_of}

@@ -18,8 +18,8 @@ use Rattle.demands.proofs.RowLaws.{Numbers, rows_elim, rows_map}
 use Rattle.card.specs.Replies.{Reply, refusal, holds, absent, fetched}
 use Rattle.laws.proofs.Cases.{order}
 use Rattle.call_find.specs.Find.{find_of}
-use Rattle.call_find.specs.declared.Found.TheVariants.{Value, Absent as NotHeld, Refused as NoLook}
-use Rattle.call_find.specs.declared.Found.{Found}
+use Rattle.call_find.specs.Found.{Value, Absent as NotHeld, Refused as NoLook}
+use Rattle.call_find.specs.Found.{Found}
 use Rattle.call_record.proofs.RecordLaws.{refusal_past, refusal_empty, refusal_long, refusal_none}
 use Rattle.call_record.specs.Records.{record_refusal, record_at, record_for, record_of, fetched_at, fetched_for, fetch_of, fetch_reply}
 

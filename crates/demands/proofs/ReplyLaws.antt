@@ -5,8 +5,8 @@ use native.Mathlib.Omega.{arith}
 use Rattle.card.specs.Replies.{Reply, refusal, holds, absent, started}
 use Rattle.demands.proofs.AnswerNumbers.{SmallBegun, SmallFound}
 use Rattle.call_find.specs.Answers.{found_reply}
-use Rattle.call_find.specs.declared.Found.{Found}
-use Rattle.call_find.specs.declared.Found.TheVariants.{Value, Absent as NotHeld, Refused as NoLook}
+use Rattle.call_find.specs.Found.{Found}
+use Rattle.call_find.specs.Found.{Value, Absent as NotHeld, Refused as NoLook}
 use Rattle.state.specs.Answers.{start_reply}
 use Rattle.state.specs.Begun.{Begun}
 use Rattle.state.specs.Begun.{Idle, Started, Refused}
