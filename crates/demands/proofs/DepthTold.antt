@@ -31,8 +31,8 @@ use Rattle.call_find.specs.Find.{found_in, found_at, find_of, find_depth, find_i
 use Rattle.call_find.proofs.FindLaws.{depth_only}
 use Rattle.walk_next.proofs.SuccessorLaws.{depth_only as next_depth_only}
 use Rattle.walk_next.specs.Successor.{next_of, next_reply, carried, next_depth}
-use Rattle.walk_next.specs.declared.Successor.{Successor}
-use Rattle.walk_next.specs.declared.Successor.TheVariants.{Pair, Nothing as NoNext, Refused as NextRefused}
+use Rattle.walk_next.specs.Next.{Successor}
+use Rattle.walk_next.specs.Next.{Pair, Nothing as NoNext, Refused as NextRefused}
 use Rattle.state.specs.Answers.{step_reply, told_depth, start_reply}
 use Rattle.state.specs.Memory.{Memory, idled, advanced}
 use Rattle.state.specs.Steps.{held_by, Step, Handed, step_refused, step_final, step_format, step_store, formatting_from}

@@ -21,8 +21,8 @@ use Rattle.demands.proofs.Reopen.{length_accepted, card_accepted, table_well_for
 use Rattle.theory_check.proofs.Ranges.{well_formed_in_range}
 use Rattle.walk_next.proofs.SuccessorLaws.{next_refused}
 use Rattle.walk_next.specs.Successor.{next_of, on_next, walk_from, next_reply}
-use Rattle.walk_next.specs.declared.Successor.TheVariants.{Pair, Nothing, Refused}
-use Rattle.walk_next.specs.declared.Successor.{Successor}
+use Rattle.walk_next.specs.Next.{Pair, Nothing, Refused}
+use Rattle.walk_next.specs.Next.{Successor}
 use Rattle.theory_next.proofs.AnyCard.{AboveOrNine, next_above}
 use Rattle.theory_next.proofs.IsNext.{IsNext}
 use Rattle.theory_next.proofs.Lookups.{found_in_range}

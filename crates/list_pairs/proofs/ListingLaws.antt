@@ -6,8 +6,8 @@ use native.Mathlib.Omega.{arith}
 use lib.ListN.{length, set}
 use borrow.Author.Tests.{lt-ltb, le-ltb}
 use Rattle.walk_next.specs.Successor.{next_of, on_next, walk_from}
-use Rattle.walk_next.specs.declared.Successor.{Successor}
-use Rattle.walk_next.specs.declared.Successor.TheVariants.{Pair, Nothing, Refused}
+use Rattle.walk_next.specs.Next.{Successor}
+use Rattle.walk_next.specs.Next.{Pair, Nothing, Refused}
 use Rattle.list_pairs.specs.Listing.{Laid, laid, lay_pair, lay_pairs}
 
 -- ---- one pair

@@ -11,8 +11,8 @@ use Rattle.walk.specs.Descent.{root_position, Way, way_from, way, leaf_of, besid
 use Rattle.laws.proofs.Cases.{bool_cases}
 use Rattle.walk_next.proofs.SuccessorLaws.{next_only}
 use Rattle.walk_next.specs.Successor.{least_above, found, next_in_leaf, in_next_leaf, or_next_leaf, next_along, next_in, next_of}
-use Rattle.walk_next.specs.declared.Successor.{Successor}
-use Rattle.walk_next.specs.declared.Successor.TheVariants.{Pair, Nothing, Refused}
+use Rattle.walk_next.specs.Next.{Successor}
+use Rattle.walk_next.specs.Next.{Pair, Nothing, Refused}
 use Rattle.theory_next.proofs.IsNext.{IsNext}
 use Rattle.theory_next.proofs.LeastAbove.{least_next}
 use Rattle.std.specs.Prelude.{Option, Some, None}

@@ -4,8 +4,8 @@ use mathlib.Core.Path.{◌≡◌}
 use mathlib.Core.List.{List}
 use mathlib.Core.Option.{none, some}
 use Prim.Native.Nat.{ℕ, ◌<◌}
-use Rattle.walk_next.specs.declared.Successor.{Successor}
-use Rattle.walk_next.specs.declared.Successor.TheVariants.{Pair, Nothing, Refused}
+use Rattle.walk_next.specs.Next.{Successor}
+use Rattle.walk_next.specs.Next.{Pair, Nothing, Refused}
 use Rattle.theory_tree.specs.Pairs.{lookup}
 
 abbrev pub IsNext : List (ℕ × ℕ) → ℕ → Successor → Type 0

@@ -23,7 +23,7 @@ use Rattle.theory_check.proofs.Depth.{well_formed_depth}
 use Rattle.theory_check.proofs.Ranges.{well_formed_in_range}
 use Rattle.walk_next.specs.Successor.{least_above, found, in_next_leaf, or_next_leaf, next_along, next_in, next_of}
 use Rattle.walk_next.proofs.SuccessorLaws.{next_only}
-use Rattle.walk_next.specs.declared.Successor.TheVariants.{Pair}
+use Rattle.walk_next.specs.Next.{Pair}
 use Rattle.theory_next.proofs.ChildRange.{lower}
 use Rattle.theory_next.proofs.IsNext.{IsNext}
 use Rattle.theory_next.proofs.LeafOf.{Neighbour, LeafOf, leaf_of_lem}

@@ -12,7 +12,7 @@ use Rattle.laws.proofs.Cases.{order}
 use Rattle.laws.specs.Cases.{pick}
 use Rattle.laws.proofs.Totals.{indicator_same, indicator_zero}
 use Rattle.laws.specs.Totals.{total}
-use Rattle.walk_next.specs.declared.Successor.TheVariants.{Pair, Nothing}
+use Rattle.walk_next.specs.Next.{Pair, Nothing}
 use Rattle.theory_next.proofs.IsNext.{IsNext}
 use Rattle.theory_tree.proofs.Lookup.{absent_counted}
 use Rattle.theory_tree.specs.Pairs.{lookup, has_key}

@@ -11,8 +11,8 @@ use Rattle.card.specs.Layout.{lowest_key, key_limit}
 use Rattle.laws.specs.Totals.{total}
 use Rattle.theory_check.proofs.Ranges.{well_formed_in_range}
 use Rattle.walk_next.specs.Successor.{next_of, on_next, walk_from}
-use Rattle.walk_next.specs.declared.Successor.{Successor}
-use Rattle.walk_next.specs.declared.Successor.TheVariants.{Pair, Nothing, Refused}
+use Rattle.walk_next.specs.Next.{Successor}
+use Rattle.walk_next.specs.Next.{Pair, Nothing, Refused}
 use Rattle.theory_next.proofs.IsNext.{IsNext}
 use Rattle.theory_next.proofs.Lookups.{found_in_range}
 use Rattle.theory_next.proofs.Next.{next_right}

@@ -21,8 +21,8 @@ use Rattle.walk.proofs.LineWays.{way_from_seen, way_seen, beside_seen}
 use Rattle.walk.proofs.DescentLaws.{slot_from, slot_start, slot_here, slot_next}
 use Rattle.walk_next.specs.Successor.{IsKey, nearer_key, nearer, nearer_above, least_above, found, next_in_leaf, in_next_leaf, or_next_leaf, next_along, next_in, next_of}
 use Rattle.walk_next.specs.Successor.{carried, next_depth}
-use Rattle.walk_next.specs.declared.Successor.{Successor}
-use Rattle.walk_next.specs.declared.Successor.TheVariants.{Pair, Nothing, Refused}
+use Rattle.walk_next.specs.Next.{Successor}
+use Rattle.walk_next.specs.Next.{Pair, Nothing, Refused}
 use Rattle.std.specs.Prelude.{Option, Some, None, IfSome, is_some, unwrap_or}
 use Rattle.walk.proofs.DescentLaws.{leaf_reached}
 use Rattle.walk.specs.declared.Reached.{Reached}

@@ -8,9 +8,9 @@ use Rattle.card.specs.Header.{card_refusal, nodes_of_length}
 use Rattle.card.specs.Layout.{depth_limit, key_limit, node_at, leaf_pairs}
 use Rattle.card.specs.Replies.{Reply, refusal, nothing, next}
 use Rattle.walk.specs.Descent.{root_position, Way, way_from, way, leaf_of, depth_of, beside_all}
-use Rattle.walk_next.specs.declared.Least.{Least}
-use Rattle.walk_next.specs.declared.Successor.{Successor}
-use Rattle.walk_next.specs.declared.Successor.TheVariants.{Pair, Nothing, Refused}
+use Rattle.walk_next.specs.declared.Pair.{Pair as Least}
+use Rattle.walk_next.specs.Next.{Successor}
+use Rattle.walk_next.specs.Next.{Pair, Nothing, Refused}
 use Rattle.walk.specs.declared.Reached.{Reached}
 
 -- ---- in a leaf

@@ -7,15 +7,9 @@ ghost use Rattle.card.specs.Layout.{greatest_nodes, depth_limit, leaf_pairs};
 ghost use Rattle.card.specs.Header.{Sized};
 ghost use Rattle.walk.specs.Descent.{root_position, way_from, leaf_of, depth_of};
 ghost use Rattle.walk_next.specs.Successor.{IsKey, nearer_key, least_above, least_of, next_along, next_of, carried, next_depth};
-ghost use Rattle.walk_next.specs.declared.Successor.TheVariants.{Refused};
+ghost use Rattle.walk_next.specs.Next.{told, next_told, depth_told};
 
-// What the call answers.
-#[derive(Clone, Copy)]
-pub enum Successor {
-    Pair { key: u32, value: u32 },
-    Nothing,
-    Refused(u32),
-}
+use card::Refusal;
 
 // The smallest key above a number, of the slots looked at so far; 2^32, above every key, where there is none. One slot more: an empty
 // one has key word 0, which is above no number. It is no Option: unrolled, the eleven slots are then choices of one number and not of two.
@@ -44,15 +38,16 @@ fn least_key(node: &[u32], after: u32) -> u64
     least
 }
 
-// The pair with that key: its value is that of the first slot that has it, looked for only now, since a value carried along took 100
-// instructions more.
-#[derive(Clone, Copy)]
-pub struct Least {
+// A number and the value beside it.
+#[derive(Clone, Copy, Debug, PartialEq, Eq)]
+pub struct Pair {
     pub key: u32,
     pub value: u32,
 }
 
-fn least_above(node: &[u32], after: u32) -> Option<Least>
+// The pair with that key: its value is that of the first slot that has it, looked for only now, since a value carried along took 100
+// instructions more.
+fn least_above(node: &[u32], after: u32) -> Option<Pair>
     requires { length node.now ≡ 24 }
     ensures { least_of result ≡ least_above after (leaf_pairs node.now) }
 {
@@ -62,36 +57,27 @@ fn least_above(node: &[u32], after: u32) -> Option<Least>
     }
     let key = least as u32;
     let slot = walk::find_slot(node, key)?;
-    Some(Least {
+    Some(Pair {
         key,
         value: node[card::VALUES + slot],
     })
 }
 
-// What the call answers, and beside it how many internal nodes the given number's own way passed, also where the answer is in the next
-// leaf; 0 where it is refused (document 02, W-203).
-#[derive(Clone, Copy)]
+// What the call answers: the pair, where there is one, and how many internal nodes the given number's own way passed, also where the
+// answer is in the next leaf (document 02, W-203).
+#[derive(Clone, Copy, Debug, PartialEq, Eq)]
 pub struct NextPair {
-    pub successor: Successor,
+    pub pair: Option<Pair>,
     pub depth: usize,
-}
-
-// "A refusal carries none."
-fn refused(refusal: u32) -> NextPair
-    ensures { (result.successor ≡ Refused refusal) × (result.depth ≡ 0) }
-{
-    NextPair {
-        successor: Successor::Refused(refusal),
-        depth: 0,
-    }
 }
 
 // In the leaf that the number leads to, else in the first leaf of the node that stands right after the way there, to which a second way
 // leads, by first children. The two ways are rounds of one loop: as two calls they took a third more instructions.
-fn next_in(card: &[u32], n: usize, after: u32, root: usize) -> NextPair
+fn next_in(card: &[u32], n: usize, after: u32, root: usize) -> Result<NextPair, Refusal>
     requires { Sized greatest_nodes (length card.now) n }
-    ensures { (result.successor ≡ next_along card.now n after (way_from card.now n after depth_limit (root_position root)))
-        × (result.depth ≡ carried (depth_of (leaf_of (way_from card.now n after depth_limit (root_position root)))) result.successor) }
+    ensures next { next_told result ≡ next_along card.now n after (way_from card.now n after depth_limit (root_position root)) }
+    ensures depth { depth_told result
+        ≡ carried (depth_of (leaf_of (way_from card.now n after depth_limit (root_position root)))) (next_told result) }
 {
     let mut from = root;
     let mut key = after;
@@ -99,23 +85,20 @@ fn next_in(card: &[u32], n: usize, after: u32, root: usize) -> NextPair
     let mut own: Option<usize> = None;
     loop {
         let Some(leaf) = walk::find_beside(card, n, key, from) else {
-            return refused(9);
+            return Err(Refusal::WrongNode);
         };
         let told = own.unwrap_or(leaf.depth);
         if let Some(pair) = least_above(card::node_at(card, leaf.node), after) {
-            return NextPair {
-                successor: Successor::Pair {
-                    key: pair.key,
-                    value: pair.value,
-                },
+            return Ok(NextPair {
+                pair: Some(pair),
                 depth: told,
-            };
+            });
         }
         if own.is_some() || leaf.beside == 0 {
-            return NextPair {
-                successor: Successor::Nothing,
+            return Ok(NextPair {
+                pair: None,
                 depth: told,
-            };
+            });
         }
         from = leaf.beside;
         key = 0;
@@ -126,24 +109,32 @@ fn next_in(card: &[u32], n: usize, after: u32, root: usize) -> NextPair
 // "the call answers the pair with the smallest key greater than it, or none exactly when the table holds no such key. It reads the
 // card only, like a find, and may come between steps." It hands on how many internal nodes the number's own way passed. `greatest` is the greatest N
 // that the calls are made for.
-pub fn next_with_depth(card: &[u32], line: u32, after: u32, greatest: usize) -> NextPair
-    ensures { (result.successor ≡ next_of greatest line card.now after)
-        × (result.depth ≡ next_depth greatest line card.now after) × (result.depth ≤ depth_limit) }
+pub fn next_with_depth(
+    card: &[u32],
+    line: u32,
+    after: u32,
+    greatest: usize,
+) -> Result<NextPair, Refusal>
+    ensures next { next_told result ≡ next_of greatest line card.now after }
+    ensures depth { depth_told result ≡ next_depth greatest line card.now after }
+    ensures limit { depth_told result ≤ depth_limit }
 {
-    let refusal = card::card_refusal(card, greatest);
-    if refusal != 0 {
-        return refused(refusal);
-    }
-    let n = card::nodes_of(card.len(), greatest);
+    let n = card::checked_nodes(card, greatest)?;
     if !card::has_line(card, line) {
-        return refused(18);
+        return Err(Refusal::WrongLine);
     }
     next_in(card, n, after, card::root_of(card, line))
 }
 
 // The same without the depth.
-pub fn next_pair(card: &[u32], line: u32, after: u32, greatest: usize) -> Successor
-    ensures { result ≡ next_of greatest line card.now after }
+pub fn next_pair(
+    card: &[u32],
+    line: u32,
+    after: u32,
+    greatest: usize,
+) -> Result<Option<Pair>, Refusal>
+    ensures { told result ≡ next_of greatest line card.now after }
 {
-    next_with_depth(card, line, after, greatest).successor
+    let next = next_with_depth(card, line, after, greatest)?;
+    Ok(next.pair)
 }

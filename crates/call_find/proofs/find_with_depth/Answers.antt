@@ -1,5 +1,5 @@
 -- `call_find::find_with_depth` meets its contract.
-use Rattle.std.proofs.Common.{◌≡◌, ◌≤◌, ℕ, ap, ap₂, refl, sym, ◌∙◌, arith, length}
+use Rattle.std.proofs.Common.{◌≡◌, ℕ, ap, ap₂, refl, sym, ◌∙◌, arith, length}
 use Rattle.std.proofs.lemmas.Result.{err_from_is_err_and}
 use Rattle.card.specs.Layout.{depth_limit}
 use Rattle.card.specs.Header.{Sized}
@@ -62,7 +62,7 @@ returns-clause-depth c =
 pub returns-clause-limit : goal.returns-clause-limit
 returns-clause-limit c =
     let depth : depth_told c.found_at.result ≡ find_depth c.args.greatest c.args.line c.args.card.now c.args.key = c.found_at.ensures.depth
-      ∙ ap₂ (λ (n r : ℕ). depth_of (leaf_of (way_from c.args.card.now n c.args.key depth_limit (root_position r))))
-      (sym (sized_nodes _ _ _ (c.in_ok-n.ensures.sized c.in_ok-n.n refl))) c.root_of.ensures
-      ∙ sym (depth_key _ c.args.line c.args.card.now c.args.key (sym c.in_ok-n.ensures.refused) (sym c.has_line.ensures ∙ c.if-not-has_line.false) c.if-key-eq0.false) in
+    ∙ ap₂ (λ (n r : ℕ). depth_of (leaf_of (way_from c.args.card.now n c.args.key depth_limit (root_position r))))
+    (sym (sized_nodes _ _ _ (c.in_ok-n.ensures.sized c.in_ok-n.n refl))) c.root_of.ensures
+    ∙ sym (depth_key _ c.args.line c.args.card.now c.args.key (sym c.in_ok-n.ensures.refused) (sym c.has_line.ensures ∙ c.if-not-has_line.false) c.if-key-eq0.false) in
     rw depth (find_depth_le c.args.greatest c.args.line c.args.card.now c.args.key)

@@ -6,8 +6,8 @@ use Rattle.card.proofs.NodeLaws.{length_node}
 use Rattle.walk.specs.Descent.{root_position, Way, way_from, leaf_of, beside_all, beside_by}
 use Rattle.walk.proofs.Along.{beside_inside}
 use Rattle.walk.proofs.DescentLaws.{leaf_beside, beside_refused, beside_told}
-use Rattle.walk_next.specs.declared.Least.{Least}
-use Rattle.walk_next.specs.declared.Successor.TheVariants.{Nothing}
+use Rattle.walk_next.specs.declared.Pair.{Pair as Least}
+use Rattle.walk_next.specs.Next.{Nothing}
 use Rattle.walk_next.specs.Successor.{least_of, least_above, found, next_in_leaf, in_next_leaf, next_along, carried}
 use Rattle.walk_next.proofs.SuccessorLaws.{next_none, next_there, in_no_leaf, in_leaf, in_round, round_first, round_refused, round_pair, round_last, round_on, own_depth}
 use Rattle.walk_next.proofs.next_in.Goals as goal
@@ -41,13 +41,13 @@ loop-leaf-init c = (λ e. (refl, refl), round_first _ _ _ _, tt)
 pub returns-in_default : goal.returns-in_default
 unfolding carried
 returns-in_default c =
-    let l = c.loop-leaf in (
-      c.refused.ensures.0
-          ∙ sym (l.invariant.1
+    let l = c.loop-leaf in
+    record {
+      next = sym (l.invariant.1
           ∙ ap (in_round l.own c.args.card.now c.args.n c.args.after (way_below c.args.card.now c.args.n c.args.after c.args.root))
-          (in_no_leaf c.args.card.now c.args.after _ (beside_refused _ _ _ _ (sym c.in_default.ensures))) ∙ round_refused _ _ _ _ _ 9),
-      c.refused.ensures.1 ∙ ap (carried _) (sym c.refused.ensures.0),
-    )
+          (in_no_leaf c.args.card.now c.args.after _ (beside_refused _ _ _ _ (sym c.in_default.ensures))) ∙ round_refused _ _ _ _ _ 9);
+      depth = refl;
+    }
 
 pub node_at-requires : goal.node_at-requires
 node_at-requires c =
@@ -62,22 +62,24 @@ least_above-requires c =
 pub returns-in-Some-least_above : goal.returns-in-Some-least_above
 unfolding found carried least_of
 returns-in-Some-least_above c =
-    let l = c.loop-leaf in (
-      sym (answered _ _ _ _ _ _ l.own _ _ _ (sym c.in-Some.ensures) l.invariant.1 _ c.node_at.ensures _ _ c.in-Some-least_above.is c.least_above.ensures
-          ∙ round_pair _ _ _ _ _ _ _),
-      c.unwrap_or-told.ensures ∙ own_depth _ _ _ _ _ _ _ l.own l.invariant.0 l.invariant.2 _ (beside_told _ _ _ _ _ _ _ (sym c.in-Some.ensures)).0,
-    )
+    let l = c.loop-leaf in
+    record {
+      next = sym (answered _ _ _ _ _ _ l.own _ _ _ (sym c.in-Some.ensures) l.invariant.1 _ c.node_at.ensures _ _ c.in-Some-least_above.is c.least_above.ensures
+          ∙ round_pair _ _ _ _ _ _ _);
+      depth = c.unwrap_or-told.ensures ∙ own_depth _ _ _ _ _ _ _ l.own l.invariant.0 l.invariant.2 _ (beside_told _ _ _ _ _ _ _ (sym c.in-Some.ensures)).0;
+    }
 
 pub returns-then-is_some : goal.returns-then-is_some
 unfolding found carried least_of
 returns-then-is_some c =
     let l = c.loop-leaf in
-    let answer = answered _ _ _ _ _ _ l.own _ _ _ (sym c.in-Some.ensures) l.invariant.1 _ c.node_at.ensures None _ c.in_default-least_above.is c.least_above.ensures in (
-      ⊎_elim (λ second. sym (answer ∙ round_last _ _ _ _ l.own (sym c.is_some.ensures ∙ second)))
+    let answer = answered _ _ _ _ _ _ l.own _ _ _ (sym c.in-Some.ensures) l.invariant.1 _ c.node_at.ensures None _ c.in_default-least_above.is c.least_above.ensures in
+    record {
+      next = ⊎_elim (λ second. sym (answer ∙ round_last _ _ _ _ l.own (sym c.is_some.ensures ∙ second)))
           (λ alone. sym (answer ∙ own_beside _ _ _ _ _ _ l.own _ _ _ (sym c.in-Some.ensures) (sym c.is_some.ensures ∙ alone.0)
-          (l.invariant.0 (sym c.is_some.ensures ∙ alone.0)) ∙ next_none _ _ _ _ alone.1)) c.then-is_some.either,
-      c.unwrap_or-told.ensures ∙ own_depth _ _ _ _ _ _ _ l.own l.invariant.0 l.invariant.2 _ (beside_told _ _ _ _ _ _ _ (sym c.in-Some.ensures)).0,
-    )
+          (l.invariant.0 (sym c.is_some.ensures ∙ alone.0)) ∙ next_none _ _ _ _ alone.1)) c.then-is_some.either;
+      depth = c.unwrap_or-told.ensures ∙ own_depth _ _ _ _ _ _ _ l.own l.invariant.0 l.invariant.2 _ (beside_told _ _ _ _ _ _ _ (sym c.in-Some.ensures)).0;
+    }
 
 pub loop-leaf-preserved : goal.loop-leaf-preserved
 unfolding found in_round least_of

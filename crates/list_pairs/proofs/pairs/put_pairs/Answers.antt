@@ -1,6 +1,6 @@
 use Rattle.std.proofs.Common.{◌≡◌, ap, sym, ◌∙◌, ℕ, ◌-◌, arith}
 use Rattle.walk_next.specs.Successor.{next_of, walk_from}
-use Rattle.walk_next.specs.declared.Successor.TheVariants.{Pair}
+use Rattle.walk_next.specs.Next.{Pair}
 use Rattle.list_pairs.specs.Listing.{laid, lay_pairs}
 use Rattle.list_pairs.proofs.ListingLaws.{walk_out, walk_ends, walk_goes_on}
 use Rattle.list_pairs.proofs.pairs.put_pairs.Goals as goal
