@@ -9,7 +9,7 @@ use lib.Dec.{eqb}
 use borrow.Author.Tests.{le-leb, lt-leb, lt-ltb, le-ltb, eq-eqb, ne_eqb, eqb-true, eqb-false}
 use Rattle.laws.proofs.Cases.{order, bool_cases}
 use Rattle.call_record.specs.Records.{record_refusal, record_at, fetched_at}
-use Rattle.call_record.specs.declared.Fetched.TheVariants.{Found, Refused}
+use Rattle.call_record.specs.Fetched.{Found, Refused}
 
 module _ (block : List ℕ) (at : ℕ) where
   pub refusal_past : length block ≤ at → record_refusal block at ≡ 23

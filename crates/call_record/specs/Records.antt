@@ -5,8 +5,8 @@ use Rattle.card.specs.Replies.{Reply, refusal, absent, fetched}
 use Rattle.call_find.specs.Find.{find_of}
 use Rattle.call_find.specs.Found.{Found as Look}
 use Rattle.call_find.specs.Found.{Value, Absent as NotHeld, Refused as NoLook}
-use Rattle.call_record.specs.declared.Fetched.{Fetched}
-use Rattle.call_record.specs.declared.Fetched.TheVariants.{Found, Absent, Refused}
+use Rattle.call_record.specs.Fetched.{Fetched}
+use Rattle.call_record.specs.Fetched.{Found, Absent, Refused}
 
 -- "23: offset at or past the block's end. 24: length 0 or record running past the end"; 0 where neither is due
 unfoldable pub record_refusal : List ℕ → ℕ → ℕ

@@ -2,57 +2,45 @@
 
 #![tactic(auto)]
 
-ghost use Rattle.std.specs.Prelude.{◌≡◌, [], ◌<◌, eqb};
+ghost use Rattle.std.specs.Prelude.{◌≡◌, [], eqb};
 ghost use Rattle.laws.specs.Cases.{pick};
-ghost use Rattle.call_record.specs.Records.{record_refusal, record_at, fetched_at, fetch_of, record_of};
+ghost use Rattle.card.specs.Refusals.{number_of};
+ghost use Rattle.call_record.specs.Fetched.{told};
+ghost use Rattle.call_record.specs.Records.{record_refusal, record_at, fetch_of, record_of};
 
-use call_find::Found;
+use card::Refusal;
 
-// Whether there is a record: "a second question over the same inputs tells found, absent or the refusal".
-#[derive(Clone, Copy)]
-pub enum Fetched {
-    Found,
-    Absent,
-    Refused(u32),
-}
-
-// A byte as a number.
-fn wide(byte: u8) -> usize
-    ensures { (result ≡ byte) × (result < 256) }
-{
-    byte as usize
-}
-
-// "23: offset at or past the block's end. 24: length 0 or record running past the end"; 0 where neither is due.
-fn record_refusal(block: &[u8], at: usize) -> u32
-    ensures { result ≡ record_refusal block.now at }
+// "23: offset at or past the block's end. 24: length 0 or record running past the end".
+fn check_record(block: &[u8], at: usize) -> Result<(), Refusal>
+    ensures { number_of result ≡ record_refusal block.now at }
 {
     if block.len() <= at {
-        return 23;
+        return Err(Refusal::WrongOffset);
     }
-    let size = wide(block[at]);
+    let size = usize::from(block[at]);
     if size == 0 {
-        return 24;
+        return Err(Refusal::WrongRecord);
     }
     if block.len() - at <= size {
-        return 24;
+        return Err(Refusal::WrongRecord);
     }
-    0
+    Ok(())
 }
 
 // The record at an offset, "without the length byte and uncopied"; where there is none the part is empty.
 fn record_at(block: &[u8], at: usize) -> &[u8]
     ensures { result.now ≡ pick (eqb (record_refusal block.now at) 0) (record_at block.now at) [] }
 {
-    if record_refusal(block, at) != 0 {
-        return &block[0..0];
+    if check_record(block, at).is_err() {
+        return &block[..0];
     }
     let from = at + 1;
-    let end = from + wide(block[at]);
+    let end = from + usize::from(block[at]);
     &block[from..end]
 }
 
 // "The found record is handed back as that part of the lent block".
+#[tactic(auto, unfolding(crate::specs::Records::record_of, crate::specs::Records::record_for))]
 pub fn fetch_record<'a>(
     card: &[u32],
     line: u32,
@@ -63,30 +51,27 @@ pub fn fetch_record<'a>(
     ensures { result.now ≡ record_of greatest line card.now key block.now }
 {
     match call_find::find(card, line, key, greatest) {
-        Found::Value(value) => record_at(block, value as usize),
-        Found::Absent => &block[0..0],
-        Found::Refused(_) => &block[0..0],
+        Ok(Some(value)) => record_at(block, value as usize),
+        Ok(None) | Err(_) => &block[..0],
     }
 }
 
-// What is at an offset.
-fn fetched_at(block: &[u8], at: usize) -> Fetched
-    ensures { result ≡ fetched_at block.now at }
+// Whether there is a record: "a second question over the same inputs tells found, absent or the refusal".
+#[tactic(auto, using(card::proofs::RefusalLaws::number_some), unfolding(crate::specs::Records::fetch_of, crate::specs::Records::fetched_for, crate::specs::Records::fetched_at))]
+pub fn is_fetched(
+    card: &[u32],
+    line: u32,
+    key: u32,
+    block: &[u8],
+    greatest: usize,
+) -> Result<bool, Refusal>
+    ensures { told result ≡ fetch_of greatest line card.now key block.now }
 {
-    let refusal = record_refusal(block, at);
-    if refusal != 0 {
-        return Fetched::Refused(refusal);
-    }
-    Fetched::Found
-}
-
-// "a second question over the same inputs"
-pub fn is_fetched(card: &[u32], line: u32, key: u32, block: &[u8], greatest: usize) -> Fetched
-    ensures { result ≡ fetch_of greatest line card.now key block.now }
-{
-    match call_find::find(card, line, key, greatest) {
-        Found::Value(value) => fetched_at(block, value as usize),
-        Found::Absent => Fetched::Absent,
-        Found::Refused(refusal) => Fetched::Refused(refusal),
+    match call_find::find(card, line, key, greatest)? {
+        Some(value) => {
+            check_record(block, value as usize)?;
+            Ok(true)
+        }
+        None => Ok(false),
     }
 }

@@ -1,6 +1,7 @@
 -- Laws of the numbers of refusals.
-use Rattle.std.proofs.Common.{◌≡◌, arith}
-use Rattle.card.specs.Refusals.{number}
+use Rattle.std.proofs.Common.{◌≡◌, ℕ, arith, refl, true, false, Result, Ok, Err, is_err}
+use Rattle.laws.proofs.Cases.{impossible}
+use Rattle.card.specs.Refusals.{number, number_of}
 use Rattle.card.specs.declared.refusal.Refusal.{Refusal}
 use Rattle.card.specs.declared.refusal.Refusal.TheVariants.{WrongLength, WrongMark, WrongHeader, Unsound, TooFewFree, ZeroKey, Busy, NoRoom, WrongNode, Idle, WrongDump, ShortSlice, WrongFamily, WrongLine, WrongOffset, WrongRecord, NoState}
 
@@ -23,3 +24,12 @@ number_some WrongLine e = omega arith
 number_some WrongOffset e = omega arith
 number_some WrongRecord e = omega arith
 number_some NoState e = omega arith
+
+-- a result is an error exactly where it has a number
+pub number_err : {A : Type 0} (r : Result A Refusal) → is_err r ≡ true → number_of r ≡ 0 → ⊥
+number_err (Ok a) e z = impossible (cc)
+number_err (Err r) e z = number_some r z
+
+pub number_ok : {A : Type 0} (r : Result A Refusal) → is_err r ≡ false → number_of r ≡ 0
+number_ok (Ok a) e = refl
+number_ok (Err r) e = impossible (cc)
