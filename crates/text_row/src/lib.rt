@@ -12,14 +12,9 @@ pub fn put_all(text: &mut [u8], at: usize, bytes: &[u8]) -> usize
     requires { at + length bytes.now ≤ length text.old }
     ensures { filled result text.new ≡ fill bytes.now (filled at text.old) }
 {
-    let mut next = at;
-    let mut i: usize = 0;
-    while i < bytes.len() {
-        text[next] = bytes[i];
-        next += 1;
-        i += 1;
-    }
-    next
+    let end = at + bytes.len();
+    text[at..end].copy_from_slice(bytes);
+    end
 }
 
 // A number after a word and a space.
@@ -55,6 +50,6 @@ pub fn put_refusal(text: &mut [u8], refusal: u32) -> usize
 // Writes the first n bytes of the row to standard output.
 pub fn print_first(text: &[u8], n: usize) {
     if n <= text.len() {
-        io::write_all(1, &text[0..n]);
+        io::write_all(1, &text[..n]);
     }
 }
