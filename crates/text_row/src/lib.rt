@@ -1,5 +1,6 @@
 // A row of bytes that is being filled with text: what the texts of `list` and `insert_check` are made of. Each of these functions
-// answers where the next byte goes, and leaves every byte but those it puts as it was.
+// answers where the next byte goes, and leaves every byte but those it puts as it was. The row and the place go by hand: as a struct
+// of a `&mut` and a number each of them and each loop over them would also promise that the `&mut` is still the same.
 
 #![tactic(auto)]
 
