@@ -6,11 +6,13 @@ ghost use Rattle.std.specs.Prelude.{◌≡◌};
 ghost use Rattle.card.specs.Replies.{plain, valued, next, with_depth};
 ghost use Rattle.call_find.specs.Answers.{found_reply};
 ghost use Rattle.state.specs.Answers.{step_reply, told_depth, start_reply, total_reply};
+ghost use Rattle.card_dump.specs.Answer.{told as told_dump};
 ghost use Rattle.card_dump.specs.Answers.{dump_reply};
 ghost use Rattle.walk_next.specs.Successor.{next_reply};
 ghost use Rattle.c_replies.specs.ReplyWords.{reply_of, kept_depth, ShortDump};
 
 use call_find::Found;
+use card::Refusal;
 use state::block::depth_kept;
 use state::{Answer, Begun, Total};
 use walk_next::Successor;
@@ -135,13 +137,13 @@ pub fn total_reply(total: Total) -> Reply
 }
 
 // "The answer is the result's length in words or bytes".
-pub fn dump_reply(answer: card_dump::Answer) -> Reply
-    requires { ShortDump answer }
-    ensures { reply_of result ≡ dump_reply answer }
+pub fn dump_reply(answer: Result<usize, Refusal>) -> Reply
+    requires { ShortDump (told_dump answer) }
+    ensures { reply_of result ≡ dump_reply (told_dump answer) }
 {
     match answer {
-        card_dump::Answer::Length(length) => valued(LENGTH, length as u32),
-        card_dump::Answer::Refused(refusal) => plain(refusal),
+        Ok(length) => valued(LENGTH, length as u32),
+        Err(refusal) => plain(refusal.number()),
     }
 }
 

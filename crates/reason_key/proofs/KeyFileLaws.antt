@@ -1,15 +1,22 @@
 -- Laws of the key in a file: where the last line stands, and what a digit more does to a value.
-use mathlib.Core.Path.{◌≡◌, refl, ap, ◌∙◌}
+use mathlib.Core.Path.{◌≡◌, refl, sym, ap, ◌∙◌}
 use mathlib.Core.Bool.{Bool, true, false, ◌&&◌, ◌||◌}
-use mathlib.Core.List.{List, [], ◌∷◌}
+use mathlib.Core.List.{List, [], ◌∷◌, ◌++◌, append_assoc}
 use Prim.Native.Nat.{ℕ, zero, suc, ◌+◌, ◌-◌, ◌*◌, ◌^◌, ◌≤◌, ◌<◌}
 use native.Mathlib.Nat.{zero-mul, add-mul, mul_assoc, mul_left_comm, pow-succ', one-le-pow, le-mul_of_pos_right}
 use native.Mathlib.Numerals.{add-one}
 use native.Mathlib.Omega.{arith}
-use lib.ListN.{length, get_or, take, drop, drop_of_length-le}
-use lib.Seq.{drop-cons}
+use lib.ListN.{length, get_or, take, drop, length-append, drop_of_length-le}
+use lib.Seq.{drop-cons, drop_at, get_or-drop}
+use lib.Pointwise.{pointwise}
+use denote.Ref.{Bor}
+use Rattle.std.specs.Prelude.{Option, Some, None, MatchOption, unwrap_or}
+use Rattle.std.specs.List.{IsAfterLastMatch}
+use Rattle.std.specs.Bool.{MatchBool}
 use lib.Dec.{eqb, leb, ltb}
-use borrow.Author.Tests.{eq-eqb, ne_eqb, le-leb, lt-leb, lt-ltb, le-ltb, leb-true, ltb-true}
+use borrow.Author.Tests.{eq-eqb, ne_eqb, le-leb, lt-leb, lt-ltb, le-ltb, ltb-true, eqb-true}
+use Rattle.std.specs.Char.{is_ascii_digit}
+use Rattle.std.proofs.lemmas.Bool.Decides.{nat_tests}
 use Rattle.laws.specs.Cases.{pick}
 use Rattle.laws.proofs.Cases.{bool_cases, order, and_true}
 use Rattle.card.specs.Layout.{lowest_key, key_limit}
@@ -25,12 +32,7 @@ or_right false = refl
 
 -- ---- the final line feed, whose place is the last
 
-pub no_bytes : (file : List ℕ) → length file ≡ 0 → take 0 file ≡ without_final_feed file
-unfolding without_final_feed
-no_bytes [] h = refl
-no_bytes (byte ∷ bytes) h = absurd (omega arith)
-
-pub final_feed : (file : List ℕ) (last : ℕ) → length file ≡ suc last → get_or file last 0 ≡ line_feed_byte → take last file ≡ without_final_feed file
+final_feed : (file : List ℕ) (last : ℕ) → length file ≡ suc last → get_or file last 0 ≡ line_feed_byte → take last file ≡ without_final_feed file
 unfolding without_final_feed
 final_feed [] last h e = absurd (omega arith)
 final_feed (byte ∷ []) zero h e = rw (eq-eqb byte line_feed_byte e)
@@ -38,7 +40,7 @@ final_feed (byte ∷ []) (suc last) h e = absurd (omega arith)
 final_feed (byte ∷ next ∷ bytes) zero h e = absurd (omega arith)
 final_feed (byte ∷ next ∷ bytes) (suc last) h e = ap (λ (l : List ℕ). byte ∷ l) (final_feed (next ∷ bytes) last (omega arith) e)
 
-pub no_final_feed : (file : List ℕ) (last : ℕ) → length file ≡ suc last → (get_or file last 0 ≡ line_feed_byte → ⊥) → file ≡ without_final_feed file
+no_final_feed : (file : List ℕ) (last : ℕ) → length file ≡ suc last → (get_or file last 0 ≡ line_feed_byte → ⊥) → file ≡ without_final_feed file
 unfolding without_final_feed
 no_final_feed [] last h d = refl
 no_final_feed (byte ∷ []) zero h d = rw (ne_eqb byte line_feed_byte d)
@@ -46,19 +48,36 @@ no_final_feed (byte ∷ []) (suc last) h d = absurd (omega arith)
 no_final_feed (byte ∷ next ∷ bytes) zero h d = absurd (omega arith)
 no_final_feed (byte ∷ next ∷ bytes) (suc last) h d = ap (λ (l : List ℕ). byte ∷ l) (no_final_feed (next ∷ bytes) last (omega arith) d)
 
+no_bytes : (file : List ℕ) → length file ≡ 0 → file ≡ without_final_feed file
+unfolding without_final_feed
+no_bytes [] h = refl
+no_bytes (byte ∷ bytes) h = absurd (omega arith)
+
+-- whether the last byte is a line feed, as the library tells it
+ends_fed : (file : List ℕ) (last : ℕ) → length file ≡ suc last → pointwise eqb (drop last file) (line_feed_byte ∷ []) ≡ (eqb (get_or file last 0) line_feed_byte && true)
+ends_fed file last h = rw (drop-cons file last 0 (omega arith), drop_of_length-le file {i = suc last} (omega arith)) refl
+
+-- what `strip_suffix` answers
+pub stripped : (file : Bor (List ℕ)) (o : Option (Bor (List ℕ)))
+    → MatchOption o (pointwise eqb (drop (length file.now - 1) file.now) (line_feed_byte ∷ []) ≡ false)
+    (λ x. (pointwise eqb (drop (length file.now - 1) file.now) (line_feed_byte ∷ []) ≡ true) × (x.now ≡ take (length file.now - 1) file.now) × (length x.now + 1 ≡ length file.now))
+    → (unwrap_or o file).now ≡ without_final_feed file.now
+stripped file None h =
+    order (length file.now) 1 (λ o. no_bytes file.now (omega arith))
+    (λ o.
+    let l : length file.now ≡ suc (length file.now - 1) = omega arith in
+    no_final_feed file.now (length file.now - 1) l (λ e. let t = ends_fed file.now _ l ∙ ap (λ (b : Bool). b && true) (eq-eqb _ _ e) in cc))
+stripped file (Some x) h =
+    let l : length file.now ≡ suc (length file.now - 1) = omega arith in
+    h.1 ∙ final_feed file.now (length file.now - 1) l (eqb-true _ _ (and_true (eqb _ _) true (sym (ends_fed file.now _ l) ∙ h.0)).0)
+
 -- ---- the last line
 
-pub feed_none : (text : List ℕ) (at : ℕ) → length text ≤ at → has_feed (drop at text) ≡ false
+-- no byte is a line feed
+no_feed : (text : List ℕ) → ((k : ℕ) → k < length text → eqb (get_or text k 0) line_feed_byte ≡ false) → has_feed text ≡ false
 unfolding has_feed
-feed_none text at h = rw (drop_of_length-le text {i = at} h)
-
--- a byte more before those that hold no line feed
-pub feed_not_here : (text : List ℕ) (place at : ℕ) → at ≡ suc place → at ≤ length text
-    → (get_or text place 0 ≡ line_feed_byte → ⊥) → has_feed (drop at text) ≡ false → has_feed (drop place text) ≡ false
-unfolding has_feed
-feed_not_here text place at e h d n =
-    let after : has_feed (drop (suc place) text) ≡ false = rw e at n in
-    rw (drop-cons text place 0 (omega arith), ne_eqb (get_or text place 0) line_feed_byte d, after)
+no_feed [] h = refl
+no_feed (byte ∷ bytes) h = rw (h 0 (omega arith), no_feed bytes (λ k l. h (suc k) (omega arith))) refl
 
 feed_there : (text : List ℕ) (place : ℕ) → place < length text → get_or text place 0 ≡ line_feed_byte → has_feed text ≡ true
 unfolding has_feed
@@ -81,22 +100,40 @@ line_after [] place h e n = absurd (omega arith)
 line_after (byte ∷ bytes) zero h e n = line_whole bytes n ∙ line_later byte bytes (feed_there (byte ∷ bytes) 0 h e)
 line_after (byte ∷ bytes) (suc place) h e n = line_after bytes place (omega arith) e n ∙ line_later byte bytes (feed_there (byte ∷ bytes) (suc place) h e)
 
-pub line_starts : (text : List ℕ) (place at : ℕ) → at ≡ suc place → at ≤ length text → get_or text place 0 ≡ line_feed_byte → has_feed (drop at text) ≡ false → drop at text ≡ last_line text
-line_starts text place at e h f n = rw e (line_after text place (omega arith) f (rw e at n))
+-- what the first part of `rsplit` is
+pub line_last : (text front line : List ℕ) → text ≡ front ++ line → IsAfterLastMatch (λ b. eqb b line_feed_byte) text (length text - length line) → line ≡ last_line text
+line_last text front line e h =
+    let at : length text - length line ≡ length front = omega (arith, ap length e, length-append front line) in
+    let rest : drop (length front) text ≡ line = ap (drop (length front)) e ∙ drop_at front line (length front) refl in
+    let after : has_feed line ≡ false =
+    no_feed line (λ k l.
+    ap (λ (x : ℕ). eqb x line_feed_byte) (ap (λ (t : List ℕ). get_or t k 0) (sym rest) ∙ get_or-drop (length front) text k 0)
+    ∙ h.0 (length front + k) 0 (omega arith) (omega (arith, ap length e, length-append front line))) in
+    order 0 (length front)
+    (λ some.
+    let place : length front ≡ suc (length front - 1) = omega arith in
+    sym rest ∙ ap (λ (k : ℕ). drop k text) place
+    ∙ line_after text (length front - 1) (omega (arith, ap length e, length-append front line)) (eqb-true _ _ (rw at at h.1 (omega arith) 0))
+    (rw (← place) (rw rest after)))
+    (λ none. let whole = let z : length front ≡ 0 = omega arith in rw z at rest in sym whole ∙ line_whole text (rw whole after))
+
+-- what stands before it
+pub line_front : (done : Bool) (text rest line : List ℕ) → MatchBool done (text ≡ line) ((byte : ℕ) × (text ≡ rest ++ (byte ∷ line))) → (front : List ℕ) × (text ≡ front ++ line)
+line_front true text rest line e = ([], e)
+line_front false text rest line h = (rest ++ h.0 ∷ [], h.1 ∙ sym (append_assoc rest (h.0 ∷ []) line))
+
+-- the first part that `rsplit` gives
+pub first_part : (text : Bor (List ℕ)) (o : Option (Bor (List ℕ))) (Done : Type 0) (Part : Bor (List ℕ) → Type 0) → MatchOption o Done Part → (Done → ⊥)
+    → ((line : Bor (List ℕ)) → Part line → line.now ≡ last_line text.now) → (unwrap_or o text).now ≡ last_line text.now
+first_part text None Done Part h n s = absurd (n h)
+first_part text (Some line) Done Part h n s = s line h
 
 -- ---- digits
 
-pub digit_not_low : (byte : ℕ) → 48 ≤ byte → leb byte 57 ≡ is_digit byte
+-- the library's test is the one of the papers
+pub digit_test : (byte : ℕ) → is_ascii_digit byte ≡ is_digit byte
 unfolding is_digit
-digit_not_low byte h = rw (le-leb 48 byte h)
-
-pub digit_low : (byte : ℕ) → byte < 48 → leb 48 byte ≡ is_digit byte
-unfolding is_digit
-digit_low byte h = rw (lt-leb 48 byte h)
-
-pub digit_range : (byte : ℕ) → is_digit byte ≡ true → (48 ≤ byte) × (byte ≤ 57)
-unfolding is_digit
-digit_range byte e = let both = and_true (leb 48 byte) (leb byte 57) e in (leb-true 48 byte both.0, leb-true byte 57 both.1)
+digit_test byte = grind (arith, nat_tests)
 
 pub digits_next : (line : List ℕ) (i : ℕ) → i < length line → is_digit (get_or line i 0) ≡ true → all_digits (drop i line) ≡ all_digits (drop (i + 1) line)
 unfolding all_digits

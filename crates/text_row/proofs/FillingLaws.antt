@@ -1,11 +1,10 @@
--- Laws of a row that is being filled: two fillings in a row, a turn of the loop, the row afterwards, and where a number ends.
-use mathlib.Core.Path.{◌≡◌, refl, ap, sym, ◌∙◌}
-use mathlib.Core.List.{List, [], ◌∷◌, ◌++◌}
-use Prim.Native.Nat.{ℕ, suc, ◌+◌, ◌≤◌, ◌<◌}
+-- Laws of a row that is being filled: two fillings in a row, all bytes at once, the row afterwards, and where a number ends.
+use mathlib.Core.Path.{◌≡◌, refl, ap, ap₂, sym, ◌∙◌}
+use mathlib.Core.List.{List, [], ◌∷◌, ◌++◌, append_assoc}
+use Prim.Native.Nat.{ℕ, suc, ◌+◌, ◌-◌, ◌≤◌}
 use native.Mathlib.Omega.{arith}
-use native.Mathlib.Numerals.{add-one}
-use lib.ListN.{length, get_or, set, drop, drop_of_length-le, length-append}
-use lib.Seq.{drop-cons, sets, sets-eq}
+use lib.ListN.{length, set, take, drop, length-append}
+use lib.Seq.{drop-drop, sets, sets-eq}
 use Rattle.text_row.specs.Filling.{Filled, filled, fill}
 use Rattle.text_row.specs.Lines.{decimal}
 
@@ -19,20 +18,20 @@ unfolding fill
 fill_at [] f = omega arith
 fill_at (x ∷ bytes) f = omega (arith, fill_at bytes (filled (suc f.at) (set f.row f.at x)))
 
--- a turn of the loop
-pub fill_next : (bytes : List ℕ) (i : ℕ) (at : ℕ) (row : List ℕ) → i < length bytes
-    → fill (drop i bytes) (filled at row) ≡ fill (drop (i + 1) bytes) (filled (at + 1) (set row at (get_or bytes i 0)))
-unfolding fill
-fill_next bytes i at row h = rw (drop-cons bytes i 0 h, add-one i, add-one at)
-
-pub fill_end : (bytes : List ℕ) (i : ℕ) (f : Filled) → length bytes ≤ i → fill (drop i bytes) f ≡ f
-unfolding fill
-fill_end bytes i f h = rw (drop_of_length-le bytes {i = i} h)
-
 fill_sets : (bytes : List ℕ) (f : Filled) → (fill bytes f).row ≡ sets f.row f.at bytes
 unfolding fill
 fill_sets [] f = refl
 fill_sets (x ∷ bytes) f = fill_sets bytes (filled (suc f.at) (set f.row f.at x))
+
+-- the bytes all at once, over the part of the row where they go
+pub fill_part : (bytes row : List ℕ) (at : ℕ) → at + length bytes ≤ length row
+    → filled (at + length bytes) (take at row ++ (bytes ++ drop (at + length bytes - at) (drop at row))) ≡ fill bytes (filled at row)
+fill_part bytes row at h =
+    let rest : drop (at + length bytes - at) (drop at row) ≡ drop (at + length bytes) row =
+    drop-drop (at + length bytes - at) at row ∙ ap (λ (k : ℕ). drop k row) (let z : at + (at + length bytes - at) ≡ at + length bytes = omega arith in z) in
+    ap₂ filled (sym (fill_at bytes (filled at row)))
+    (ap (λ (l : List ℕ). take at row ++ (bytes ++ l)) rest ∙ sym (append_assoc (take at row) bytes (drop (at + length bytes) row)) ∙ sym (sets-eq bytes row at h)
+    ∙ sym (fill_sets bytes (filled at row)))
 
 -- what one call after another puts, and where the next byte goes
 pub fill_then : (a b : List ℕ) (f : Filled) {r s : ℕ} {first second : List ℕ} → filled r first ≡ fill a f → filled s second ≡ fill b (filled r first) → filled s second ≡ fill (a ++ b) f

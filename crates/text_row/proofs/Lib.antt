@@ -2,5 +2,5 @@
 pub mod DecimalLaws
 -- a number and where it ends, told from its text
 pub mod Telling
--- laws of a row that is being filled: two fillings in a row, a turn of the loop, the row afterwards, and where a number ends
+-- laws of a row that is being filled: two fillings in a row, all bytes at once, the row afterwards, and where a number ends
 pub mod FillingLaws

@@ -1,5 +1,6 @@
 // A row of bytes that is being filled with text: what the texts of `list` and `insert_check` are made of. Each of these functions
-// answers where the next byte goes, and leaves every byte but those it puts as it was.
+// answers where the next byte goes, and leaves every byte but those it puts as it was. The row and the place go by hand: as a struct
+// of a `&mut` and a number each of them and each loop over them would also promise that the `&mut` is still the same.
 
 #![tactic(auto)]
 
@@ -12,14 +13,9 @@ pub fn put_all(text: &mut [u8], at: usize, bytes: &[u8]) -> usize
     requires { at + length bytes.now ≤ length text.old }
     ensures { filled result text.new ≡ fill bytes.now (filled at text.old) }
 {
-    let mut next = at;
-    let mut i: usize = 0;
-    while i < bytes.len() {
-        text[next] = bytes[i];
-        next += 1;
-        i += 1;
-    }
-    next
+    let end = at + bytes.len();
+    text[at..end].copy_from_slice(bytes);
+    end
 }
 
 // A number after a word and a space.
@@ -55,6 +51,6 @@ pub fn put_refusal(text: &mut [u8], refusal: u32) -> usize
 // Writes the first n bytes of the row to standard output.
 pub fn print_first(text: &[u8], n: usize) {
     if n <= text.len() {
-        io::write_all(1, &text[0..n]);
+        io::write_all(1, &text[..n]);
     }
 }

@@ -1,17 +1,12 @@
-use Rattle.std.proofs.Common.{sym, ◌∙◌, arith}
+use Rattle.std.proofs.Common.{◌++◌, ◌+◌, ◌-◌, List, ℕ, length, take, drop, ap, ◌∙◌}
 use Rattle.text_row.specs.Filling.{filled}
-use Rattle.text_row.proofs.FillingLaws.{fill_next, fill_end}
+use Rattle.text_row.proofs.FillingLaws.{fill_part}
 use Rattle.text_row.proofs.put_all.Goals as goal
-
-pub loop-i-preserved : goal.loop-i-preserved
-loop-i-preserved c =
-    let l = c.loop-i in (
-      omega arith,
-      omega arith,
-      l.invariant.2 ∙ fill_next c.args.bytes.now l.i l.next l.text (omega arith),
-    )
 
 pub returns : goal.returns
 returns c =
-    let l = c.loop-i in
-    sym (l.invariant.2 ∙ fill_end c.args.bytes.now l.i (filled l.next l.text) (omega arith))
+    let at = c.args.at in
+    let text = c.args.text.now in
+    let end = at + length c.args.bytes.now in
+    ap (λ (bytes : List ℕ). filled end (take at text ++ (bytes ++ drop (end - at) (drop at text)))) c.copy_from_slice.ensures.after
+    ∙ fill_part c.args.bytes.now text at c.requires
