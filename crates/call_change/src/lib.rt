@@ -51,7 +51,7 @@ fn place_new(leaf: &[u32], node: usize, link: usize, key: u32, value: u32) -> De
 }
 
 // "Insert, key held: answers the held value, no store."
-#[tactic(auto, using(walk::proofs::DescentLaws::slot_below, crate::proofs::UpdateLaws::answer_empty), unfolding(crate::specs::Updates::insert_reason, crate::specs::Updates::reason_in, crate::specs::Decided::insert_answer, crate::specs::Decided::placed))]
+#[tactic(auto, using(walk::proofs::DescentLaws::slot_below))]
 fn insert_in(leaf: &[u32], node: usize, link: usize, key: u32, value: u32) -> First
     requires { length leaf.now ≡ 24 }
     ensures { result ≡ insert_decided key value node link (insert_reason leaf.now key) }

@@ -8,8 +8,7 @@ use lib.ListN.{length, get_or, take, drop}
 use lib.Dec.{eqb}
 use borrow.Author.Tests.{le-leb, lt-leb, lt-ltb, le-ltb, eq-eqb, ne_eqb, eqb-true, eqb-false}
 use Rattle.laws.proofs.Cases.{order, bool_cases}
-use Rattle.call_record.specs.Records.{record_refusal, record_at, fetched_at}
-use Rattle.call_record.specs.Fetched.{Found, Refused}
+use Rattle.call_record.specs.Records.{record_refusal, record_at}
 
 module _ (block : List ℕ) (at : ℕ) where
   pub refusal_past : length block ≤ at → record_refusal block at ≡ 23
@@ -56,11 +55,3 @@ record_part block at from end f e =
     let n : end - from ≡ get_or block at 0 = omega arith in
     rw (n, f) refl
 
-module _ (block : List ℕ) (at : ℕ) where
-  pub fetched_found : record_refusal block at ≡ 0 → fetched_at block at ≡ Found
-  unfolding fetched_at
-  fetched_found e = rw (eq-eqb (record_refusal block at) 0 e)
-
-  pub fetched_refused : (record_refusal block at ≡ 0 → ⊥) → fetched_at block at ≡ Refused (record_refusal block at)
-  unfolding fetched_at
-  fetched_refused d = rw (ne_eqb (record_refusal block at) 0 d)

@@ -3,7 +3,7 @@
 use mathlib.Core.Path.{◌≡◌, refl, sym, ap, ap₂, subst, ◌∙◌}
 use mathlib.Core.Bool.{Bool, true, false}
 use mathlib.Core.List.{List, [], ◌∷◌}
-use mathlib.Core.Option.{Option, none, some}
+use mathlib.Core.Option.{Option as Maybe, none, some}
 use mathlib.Core.Logic.{by_cases}
 use Prim.Native.Nat.{ℕ, suc, ◌≤◌, ◌<◌}
 use native.Mathlib.Omega.{arith}
@@ -24,10 +24,6 @@ use Rattle.card.specs.Stores.{Store}
 use Rattle.card_free.specs.NodeSet.{word_count, capacity}
 use Rattle.card_free.proofs.NodeSetLaws.{length_nodes}
 use Rattle.walk.specs.Descent.{slot_of}
-use Rattle.walk.specs.declared.Slot.{Slot}
-use Rattle.walk.specs.declared.Slot.TheVariants.{At, Absent as NoSlot}
-use Rattle.walk.specs.declared.Landing.{Landing}
-use Rattle.walk.specs.declared.Landing.TheVariants.{Refused as NoLanding, Leaf as LandingAt}
 use Rattle.change_plan.specs.Plan.{stores_of}
 use Rattle.change_plan.specs.Planning.{Preparation, refused, balanced, prepared}
 use Rattle.change_layout.proofs.Bounds.{WithinBounds, laid_bounds}
@@ -51,6 +47,8 @@ use Rattle.call_step.specs.StepBlocks.{played_block, planned_block, first_stored
 use Rattle.call_step.specs.StepWords.{stored_words, step_words}
 use Rattle.call_step.proofs.StepBlockLaws.{Plannable, memory_idled, memory_formatting, memory_played, memory_first_stored}
 use Rattle.call_step.proofs.StepWordsLaws.{hand_words_lem, first_words_lem}
+use Rattle.std.specs.Prelude.{Option, Some, None}
+use Rattle.walk.specs.declared.Landing.{Landing}
 
 -- ---- the final answers
 
@@ -69,20 +67,20 @@ module _ (greatest : ℕ) (card : List ℕ) (n : ℕ) (free : List Bool) (last :
   insert_ends key value m link node (slot i) = tt
   insert_ends key value m link node full = tt
 
-  delete_ends : (key m : ℕ) (node : List ℕ) (found : Slot) → Ends (delete_change key free last m node found).final
+  delete_ends : (key m : ℕ) (node : List ℕ) (found : Option ℕ) → Ends (delete_change key free last m node found).final
   unfolding delete_change Ends
-  delete_ends key m node (At i) = tt
-  delete_ends key m node NoSlot = tt
+  delete_ends key m node (Some i) = tt
+  delete_ends key m node None = tt
 
-  put_ends : (doing : Doing) (key value : ℕ) (l : Landing) → Ends (in_leaf card doing (insert_in key value free last) l).final
+  put_ends : (doing : Doing) (key value : ℕ) (l : Option Landing) → Ends (in_leaf card doing (insert_in key value free last) l).final
   unfolding in_leaf no_way Ends
-  put_ends doing key value NoLanding = tt
-  put_ends doing key value (LandingAt m link run) = insert_ends key value m link (node_at card m) (insert_reason (node_at card m) key)
+  put_ends doing key value None = tt
+  put_ends doing key value (Some l) = insert_ends key value l.node l.link (node_at card l.node) (insert_reason (node_at card l.node) key)
 
-  take_ends : (doing : Doing) (key : ℕ) (l : Landing) → Ends (in_leaf card doing (delete_in key free last) l).final
+  take_ends : (doing : Doing) (key : ℕ) (l : Option Landing) → Ends (in_leaf card doing (delete_in key free last) l).final
   unfolding in_leaf no_way Ends
-  take_ends doing key NoLanding = tt
-  take_ends doing key (LandingAt m link run) = delete_ends key m (node_at card m) (slot_of (node_at card m) key)
+  take_ends doing key None = tt
+  take_ends doing key (Some l) = delete_ends key l.node (node_at card l.node) (slot_of (node_at card l.node) key)
 
   pub next_ends : (doing : Doing) (task : Task) → TaskOf doing task → Ends (next_change card n free last doing task).final
   unfolding next_change Ends
@@ -202,7 +200,7 @@ module _ (greatest line : ℕ) (card b : List ℕ) (l : length b ≡ state_words
   checked_right due h = pick_either Right (eqb (header_refusal card m.nodes) 0) _ _ (λ t. h) (λ t. refused_right card _)
 
   -- formatting
-  format_right : (made : ℕ) → held_by m.doing ≡ HeldFormatting made → (next : Option Store) → Right (step_format card m made next)
+  format_right : (made : ℕ) → held_by m.doing ≡ HeldFormatting made → (next : Maybe Store) → Right (step_format card m made next)
   unfolding step_format step_block step_words stored_block memory_in Ends
   format_right made e none = final_right card Ready tt
   format_right made e (some s) =

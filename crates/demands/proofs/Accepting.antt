@@ -3,7 +3,7 @@ use mathlib.Core.Path.{◌≡◌, refl, ap, subst, ◌∙◌}
 use mathlib.Core.Logic.{inl, inr}
 use mathlib.Core.List.{List}
 use mathlib.Core.Bool.{true, false}
-use mathlib.Core.Option.{Option, none, some}
+use mathlib.Core.Option.{Option as Maybe, none, some}
 use Prim.Native.Nat.{ℕ, ◌+◌, ◌≤◌, ◌<◌}
 use native.Mathlib.Omega.{arith}
 use native.Mathlib.Decide.{ℕ_discrete}
@@ -11,7 +11,6 @@ use lib.ListN.{length}
 use borrow.Author.Tests.{ne_eqb, eq-eqb, le-ltb}
 use Rattle.call_find.proofs.FindLaws.{find_only}
 use Rattle.theory_change.proofs.Line.{size, partition_only, count_only}
-use Rattle.walk.specs.declared.Reached.{Reached}
 use Rattle.demands.proofs.BookLaws.{dictionary_answer}
 use Rattle.call_find.specs.Answers.{found_reply}
 use Rattle.state.specs.Answers.{step_reply, start_reply}
@@ -47,8 +46,8 @@ use Rattle.theory_tree.specs.Pairs.{pairs, lookup}
 use Rattle.theory_tree.proofs.Path.{depth_of}
 use Rattle.theory_tree.specs.Tree.{Tree}
 use Rattle.theory_tree.specs.WellFormed.{WellFormed}
-use Rattle.walk.specs.declared.Slot.{Slot}
-use Rattle.walk.specs.declared.Slot.TheVariants.{At, Absent as NoSlot}
+use Rattle.std.specs.Prelude.{Option, Some, None}
+use Rattle.walk.specs.declared.Reached.{Reached}
 
 -- the reply of an opening tells whether it refused
 small_refused : (b : Begun) (r : ℕ) → SmallBegun b → b ≡ BegunRefused r → (start_reply b).code < 64
@@ -98,7 +97,7 @@ accepted_table greatest c a = go (table_check c (nodes_of_length greatest (lengt
     k : (card_refusal greatest c ≡ 0) × Sized greatest (length c) (nodes_of_length greatest (length c)) × Formatted c (nodes_of_length greatest (length c))
     k = accepted_card greatest c a
 
-    go : (x : Option (ℕ × Findings)) → table_check c (nodes_of_length greatest (length c)) ≡ x → (t : Tree) × WellFormed c t
+    go : (x : Maybe (ℕ × Findings)) → table_check c (nodes_of_length greatest (length c)) ≡ x → (t : Tree) × WellFormed c t
     go none e = absurd (refuses greatest c 4 (open_unrefused greatest c k.0 ∙ rw e) a)
     go (some r) e = let s = accepts_sound c (nodes_of_length greatest (length c)) k.1.words k.1.most r.0 r.1 e in (s.0, s.1)
 
@@ -114,7 +113,7 @@ accepted_start greatest c a = go (table_check c (nodes_of_length greatest (lengt
     k : (card_refusal greatest c ≡ 0) × Sized greatest (length c) (nodes_of_length greatest (length c)) × Formatted c (nodes_of_length greatest (length c))
     k = accepted_card greatest c a
 
-    go : (x : Option (ℕ × Findings)) → table_check c (nodes_of_length greatest (length c)) ≡ x → (open_of greatest c).memory.last ≡ search_start c
+    go : (x : Maybe (ℕ × Findings)) → table_check c (nodes_of_length greatest (length c)) ≡ x → (open_of greatest c).memory.last ≡ search_start c
     go none e = absurd (refuses greatest c 4 (open_unrefused greatest c k.0 ∙ rw e) a)
     go (some (h, f)) e =
         let is : open_of greatest c ≡ open_sound (nodes_of_length greatest (length c)) (search_start c) (table_counted c) f = open_unrefused greatest c k.0 ∙ rw e in
@@ -162,10 +161,10 @@ accepted_openable greatest c t a w = go (sound_accepted c (nodes_of_length great
 find_is : (greatest : ℕ) (c : List ℕ) (n key : ℕ) → card_refusal greatest c ≡ 0 → nodes_of_length greatest (length c) ≡ n → 0 < key → find_of greatest 1 c key ≡ found_at c key (leaf_of (way c n key))
 find_is greatest c n key e en h = find_only greatest c key e (omega arith) ∙ ap (λ (m : ℕ). found_at c key (leaf_of (way c m key))) en
 
-found_is : (words : List ℕ) (s : Slot) → found_reply (found_in words s) ≡ step_reply (dictionary_answer (slot_answer words s))
+found_is : (words : List ℕ) (s : Option ℕ) → found_reply (found_in words s) ≡ step_reply (dictionary_answer (slot_answer words s))
 unfolding found_in slot_answer found_reply step_reply dictionary_answer
-found_is words (At i) = refl
-found_is words NoSlot = refl
+found_is words (Some i) = refl
+found_is words None = refl
 
 pub find_answers : (greatest : ℕ) (c : List ℕ) (n : ℕ) (t : Tree) (key : ℕ) → Table greatest c n t → 0 < key → key < key_limit
     → found_reply (find_of greatest 1 c key) ≡ step_reply (dictionary_answer (lookup key (pairs t)))
@@ -174,6 +173,6 @@ find_answers greatest c n t key b h l =
     let a = card_accepted greatest b.sized b.header in
     let f = landing_found c n key b.sized.words lowest_key key_limit t b.holds b.sound.range (omega arith) l h (table_depth_limited greatest b) in
     ap found_reply (find_is greatest c n key a.0 a.1 h)
-    ∙ ap (λ (x : Reached). found_reply (found_at c key x)) f.reached
+    ∙ ap (λ (x : Option Reached). found_reply (found_at c key x)) f.reached
     ∙ found_is (node_at c f.number) (slot_of (node_at c f.number) key)
-    ∙ ap (λ (x : Option ℕ). step_reply (dictionary_answer x)) f.answers
+    ∙ ap (λ (x : Maybe ℕ). step_reply (dictionary_answer x)) f.answers

@@ -2,21 +2,15 @@
 use mathlib.Core.Bool.{Bool, true, false}
 use mathlib.Core.List.{List, [], ◌∷◌}
 use mathlib.Core.Path.{◌≡◌, refl}
-use mathlib.Core.Option.{Option, none, some}
+use mathlib.Core.Option.{Option as Maybe, none, some}
 use Prim.Native.Nat.{ℕ, ◌+◌, ◌<◌}
 use native.Mathlib.Omega.{arith}
 use lib.ListN.{length, get_or}
 use lib.Dec.{eqb, ltb}
 use Rattle.card.specs.Lines.{has_line, seen}
 use Rattle.card.specs.Header.{nodes_of_length, header_refusal, card_refusal, must}
-use Rattle.walk.specs.declared.Landing.{Landing}
-use Rattle.walk.specs.declared.Landing.TheVariants.{Refused as NoLanding, Leaf as LandingAt}
 use Rattle.card_free.specs.NodeSet.{count_true}
 use Rattle.walk.specs.Descent.{slot_of, way, leaf_of}
-use Rattle.walk.specs.declared.Slot.{Slot}
-use Rattle.walk.specs.declared.Slot.TheVariants.{At, Absent as NoSlot}
-use Rattle.walk.specs.declared.Reached.{Reached}
-use Rattle.walk.specs.declared.Reached.TheVariants.{Refused as NotReached, Leaf as ReachedLeaf}
 use Rattle.call_find.specs.Find.{found_in, found_at, find_of, find_in}
 use Rattle.call_find.specs.Found.{Found}
 use Rattle.call_find.specs.Found.{Value as FoundValue, Absent as FoundAbsent, Refused as FoundRefused}
@@ -42,6 +36,9 @@ use Rattle.state.specs.Answer.{Stored, Ready, Absent, Value, Refused}
 use Rattle.state.specs.declared.Held.{Held}
 use Rattle.state.specs.declared.Held.TheVariants.{Nothing, Formatting, Task as HeldTask}
 use Rattle.state.specs.declared.Task.{Task}
+use Rattle.std.specs.Prelude.{Option, Some, None}
+use Rattle.walk.specs.declared.Landing.{Landing}
+use Rattle.walk.specs.declared.Reached.{Reached}
 
 abbrev pub SmallBegun : Begun → Type 0
 SmallBegun OpenedIdle = Unit
@@ -66,7 +63,7 @@ sound_small : (n last : ℕ) (totals : List ℕ) (f : Findings) → SmallBegun (
 unfolding open_sound no_beginning
 sound_small n last totals f = bool_cases (ltb (count_true f.free) (3 + f.run)) (λ a. rw a (omega arith)) (λ a. bool_cases f.violated (λ v. rw (a, v) tt) (λ v. rw (a, v) tt))
 
-checked_small : (n last : ℕ) (totals : List ℕ) (x : Option (ℕ × Findings)) → SmallBegun (open_checked n last totals x).begun
+checked_small : (n last : ℕ) (totals : List ℕ) (x : Maybe (ℕ × Findings)) → SmallBegun (open_checked n last totals x).begun
 unfolding open_checked no_beginning
 checked_small n last totals none = omega arith
 checked_small n last totals (some r) = sound_small n last totals r.1
@@ -78,13 +75,13 @@ open_small greatest c =
     (λ q. rw q (checked_small (nodes_of_length greatest (length c)) (search_start c) (table_counted c) (table_check c (nodes_of_length greatest (length c)))))
     (λ q. rw q (card_small greatest c))
 
-landed_small : (m : Memory) (doing : Doing) (depth : ℕ) (room : Bool) (l : Landing) → SmallBegun (start_landed m doing depth room l).begun
+landed_small : (m : Memory) (doing : Doing) (depth : ℕ) (room : Bool) (l : Option Landing) → SmallBegun (start_landed m doing depth room l).begun
 unfolding start_landed start_refused start_accepted
-landed_small m doing depth room NoLanding = omega arith
-landed_small m doing depth true (LandingAt node link run) = tt
-landed_small m doing depth false (LandingAt node link run) = omega arith
+landed_small m doing depth room None = omega arith
+landed_small m doing depth true (Some l) = tt
+landed_small m doing depth false (Some l) = omega arith
 
-pub start_small : (greatest : ℕ) (c : List ℕ) (m : Memory) (key : ℕ) (doing : Doing) (room : Landing → Bool) → SmallBegun (start_of greatest 1 c m key doing room).begun
+pub start_small : (greatest : ℕ) (c : List ℕ) (m : Memory) (key : ℕ) (doing : Doing) (room : Option Landing → Bool) → SmallBegun (start_of greatest 1 c m key doing room).begun
 unfolding start_of start_checked start_refused has_line
 start_small greatest c m key doing room =
     bool_cases (eqb (nodes_of_length greatest (length c)) 0) (λ q. rw q (omega arith)) (λ q.
@@ -100,15 +97,15 @@ SmallFound (FoundValue v) = Unit
 SmallFound FoundAbsent = Unit
 SmallFound (FoundRefused r) = r < 64
 
-in_small : (words : List ℕ) (s : Slot) → SmallFound (found_in words s)
+in_small : (words : List ℕ) (s : Option ℕ) → SmallFound (found_in words s)
 unfolding found_in
-in_small words (At i) = tt
-in_small words NoSlot = tt
+in_small words (Some i) = tt
+in_small words None = tt
 
-at_small : (c : List ℕ) (key : ℕ) (x : Reached) → SmallFound (found_at c key x)
+at_small : (c : List ℕ) (key : ℕ) (x : Option Reached) → SmallFound (found_at c key x)
 unfolding found_at
-at_small c key NotReached = omega arith
-at_small c key (ReachedLeaf m depth) = in_small (node_at c m) (slot_of (node_at c m) key)
+at_small c key None = omega arith
+at_small c key (Some l) = in_small (node_at c l.node) (slot_of (node_at c l.node) key)
 
 pub find_small : (greatest line : ℕ) (c : List ℕ) (key : ℕ) → SmallFound (find_of greatest line c key)
 unfolding find_of find_in
@@ -168,7 +165,7 @@ module _ (greatest : ℕ) (c : List ℕ) (m : Memory) where
   unfolding step_checked step_refused
   checked_step_small due h = bool_cases (eqb (header_refusal c m.nodes) 0) (λ q. rw q h) (λ q. rw q (header_small c m.nodes))
 
-  format_small : (made : ℕ) (o : Option Store) → SmallAnswer (step_format c m made o).answer
+  format_small : (made : ℕ) (o : Maybe Store) → SmallAnswer (step_format c m made o).answer
   unfolding step_format step_final
   format_small made none = tt
   format_small made (some s) = tt

@@ -32,7 +32,6 @@ use Rattle.state.specs.Answer.{Absent}
 use Rattle.state.specs.declared.Doing.{Doing}
 use Rattle.state.specs.declared.Doing.TheVariants.{Idle, Inserting, Deleting}
 use Rattle.state.specs.declared.Phase.TheVariants.{NotBegun}
-use Rattle.walk.specs.declared.Landing.{Landing}
 use Rattle.call_change.specs.Updates.{start_room}
 use Rattle.call_start.specs.Starts.{start_of, delete_of}
 use Rattle.state.proofs.Blocks.{with_totals}
@@ -46,6 +45,8 @@ use Rattle.demands.proofs.LineWork.{StoresOwn, none, one, stores_own, long, size
 use Rattle.demands.proofs.PowerLoss.{idle_not_busy}
 use Rattle.demands.proofs.Starting.{idle_or_busy, started_insert, started_delete}
 use Rattle.demands.proofs.Steps.{memory}
+use Rattle.std.specs.Prelude.{Option}
+use Rattle.walk.specs.declared.Landing.{Landing}
 
 -- one of the two: its number, and the most nodes that it may use
 pub record Side : Type 0 where
@@ -222,7 +223,7 @@ module _ (greatest n : ℕ) (l l' : Side) (c : List ℕ) (m : Memory) (at_rest :
   table = seen l.number c
 
   -- a start on the card is the start on the line's table
-  here : (doing : Doing) (room : Landing → Bool) → start_of greatest l.number c m key doing room ≡ start_of greatest 1 table m key doing room
+  here : (doing : Doing) (room : Option Landing → Bool) → start_of greatest l.number c m key doing room ≡ start_of greatest 1 table m key doing room
   here doing room =
       start_on_line greatest l.number c m key doing room has (sized_here greatest own l.number l.is c m b x.inv) right
       (header_there greatest own l.number l.is c m b x.inv)

@@ -3,7 +3,7 @@ use mathlib.Core.Path.{◌≡◌, refl, ap, sym, ◌∙◌}
 use mathlib.Core.Bool.{true, false}
 use mathlib.Core.List.{List, [], ◌∷◌}
 use mathlib.Core.Logic.{◌⊎◌, inl, inr}
-use mathlib.Core.Option.{Option, none, some}
+use mathlib.Core.Option.{Option as Maybe, none, some}
 use Prim.Native.Nat.{ℕ, suc, ◌+◌, ◌≤◌, ◌<◌}
 use native.Mathlib.Omega.{arith}
 use native.Mathlib.Decide.{ℕ_discrete}
@@ -21,8 +21,6 @@ use Rattle.demands.specs.RationTable.{work_of, handed, ration_table}
 use Rattle.demands.proofs.FirstRows.{NoCard, sized?, no_nodes, by_card, card_one}
 use Rattle.demands.proofs.WayDown.{arrived, reached_leaf, leaf_way}
 use Rattle.walk.specs.Descent.{first_equal, slot_of, way, leaf_of}
-use Rattle.walk.specs.declared.Reached.{Reached}
-use Rattle.walk.specs.declared.Reached.TheVariants.{Refused as NotReached, Leaf as ReachedLeaf}
 use Rattle.theory_format.proofs.FormatSteps.{format_memory, format_starts, format_refused}
 use Rattle.card_free.specs.NodeSet.{count_true}
 use Rattle.laws.proofs.Bits.{bit_true, bit_false}
@@ -45,6 +43,8 @@ use Rattle.state.specs.Steps.{no_beginning}
 use Rattle.state.specs.Begun.{Started}
 use Rattle.theory_tree.specs.Tree.{Tree}
 use Rattle.theory_tree.specs.WellFormed.{WellFormed}
+use Rattle.std.specs.Prelude.{Option, Some, None}
+use Rattle.walk.specs.declared.Reached.{Reached}
 
 -- ---- finds
 
@@ -53,15 +53,15 @@ find_due : (greatest : ℕ) (c : List ℕ) (key r : ℕ) → card_refusal greate
 unfolding found_reply
 find_due greatest c key r e d = rw (find_refused greatest 1 c key (λ z. d (sym e ∙ z)), e)
 
-pub none_some : {A P : Type 0} (x : A) → ◌≡◌ {A = Option A} none (some x) → P
+pub none_some : {A P : Type 0} (x : A) → ◌≡◌ {A = Maybe A} none (some x) → P
 none_some x e = impossible (cc)
 
-leaf_none : (o : Option (ℕ × ℕ)) → reached_leaf o ≡ none → o ≡ none
+leaf_none : (o : Maybe (ℕ × ℕ)) → reached_leaf o ≡ none → o ≡ none
 unfolding reached_leaf
 leaf_none none e = refl
 leaf_none (some l) e = none_some l.0 (sym e)
 
-leaf_some : (o : Option (ℕ × ℕ)) (m : ℕ) → reached_leaf o ≡ some m → (j : ℕ) × (o ≡ some (m, j))
+leaf_some : (o : Maybe (ℕ × ℕ)) (m : ℕ) → reached_leaf o ≡ some m → (j : ℕ) × (o ≡ some (m, j))
 unfolding reached_leaf
 leaf_some none m e = none_some m e
 leaf_some (some (leaf, j)) m e = (j, cc)
@@ -104,15 +104,15 @@ finds greatest c key =
         a : (card_refusal greatest c ≡ 0) × (nodes_of_length greatest (length c) ≡ nodes_on c)
         a = card_accepted greatest s f
 
-        at : (key ≡ 0 → ⊥) → (x : Reached) → leaf_of (way c (nodes_on c) key) ≡ x
+        at : (key ≡ 0 → ⊥) → (x : Option Reached) → leaf_of (way c (nodes_on c) key) ≡ x
             → ((leads_to c key ≡ none) × (found_reply (find_of greatest 1 c key) ≡ refusal 9))
             ⊎ ((leads_to c key ≡ none → ⊥) × ReadsLeaf c key (found_reply (find_of greatest 1 c key)))
-        at d NotReached e = inl (leaf_none (leads_to c key) (sym (leaf_way c key) ∙ ap arrived e), rw (find_only greatest c key a.0 d, a.1, e))
-        at d (ReachedLeaf m deep) e =
-            let l = leaf_some (leads_to c key) m (sym (leaf_way c key) ∙ ap arrived e) in
+        at d None e = inl (leaf_none (leads_to c key) (sym (leaf_way c key) ∙ ap arrived e), rw (find_only greatest c key a.0 d, a.1, e))
+        at d (Some t) e =
+            let l = leaf_some (leads_to c key) t.node (sym (leaf_way c key) ∙ ap arrived e) in
             inr (
-              λ z. none_some (m, l.0) (sym z ∙ l.1),
-              (m, l.0, l.1, rw (find_only greatest c key a.0 d, a.1, e) (found_works (node_at c m) key)),
+              λ z. none_some (t.node, l.0) (sym z ∙ l.1),
+              (t.node, l.0, l.1, rw (find_only greatest c key a.0 d, a.1, e) (found_works (node_at c t.node) key)),
             )
 
         keyed : Dec (key ≡ 0) → ((key ≡ 0) × (found_reply (find_of greatest 1 c key) ≡ refusal 6))
@@ -175,7 +175,7 @@ opens greatest c =
         (HandsNone (ration_table greatest) (handed (open_of greatest c))) (OpensTo (ration_table greatest) c (handed (open_of greatest c)))
     past s k = checked (table_check c (nodes_on c)) refl
       where
-        checked : (x : Option (ℕ × Findings)) → table_check c (nodes_on c) ≡ x
+        checked : (x : Maybe (ℕ × Findings)) → table_check c (nodes_on c) ≡ x
             → (Unsound c × HandsNone (ration_table greatest) (handed (open_of greatest c)) 4) ⊎ ((Unsound c → ⊥)
             × ((Scarce c × HandsNone (ration_table greatest) (handed (open_of greatest c)) 5) ⊎ ((Scarce c → ⊥) × OpensTo (ration_table greatest) c (handed (open_of greatest c)))))
         checked none e =

@@ -2,7 +2,7 @@
 use mathlib.Core.Path.{◌≡◌, refl, ap, ap₂, ◌∙◌}
 use mathlib.Core.Bool.{Bool, true}
 use mathlib.Core.List.{List, [], ◌∷◌}
-use mathlib.Core.Option.{Option, none, some}
+use mathlib.Core.Option.{Option as Maybe, none, some}
 use Prim.Native.Nat.{ℕ, ◌<◌}
 use native.Mathlib.Omega.{arith}
 use lib.ListN.{length, get_or, drop}
@@ -21,11 +21,6 @@ use Rattle.card.specs.Stores.{Store}
 use Rattle.card.proofs.HeaderLaws.{sized_nodes}
 use Rattle.change_plan.specs.Planning.{Preparation, refused, balanced, prepared}
 use Rattle.walk.specs.Descent.{way, root_position, leaf_of, depth_of, slot_of}
-use Rattle.walk.specs.declared.Landing.{Landing}
-use Rattle.walk.specs.declared.Reached.{Reached}
-use Rattle.walk.specs.declared.Reached.TheVariants.{Refused as NotReached, Leaf as ReachedLeaf}
-use Rattle.walk.specs.declared.Slot.{Slot}
-use Rattle.walk.specs.declared.Slot.TheVariants.{At, Absent as NoSlot}
 use Rattle.call_find.specs.Answers.{found_reply}
 use Rattle.call_find.specs.Find.{found_in, found_at, find_of, find_depth, find_in, depth_in}
 use Rattle.call_find.proofs.FindLaws.{depth_only}
@@ -72,6 +67,9 @@ use Rattle.demands.proofs.AnswerNumbers.{start_small, SmallAnswer, step_small}
 use Rattle.demands.proofs.ReplyLaws.{code_of, begun_started}
 use Rattle.demands.proofs.Starting.{nodes_same}
 use Rattle.demands.proofs.StartRows.{started_is}
+use Rattle.std.specs.Prelude.{Option, Some, None}
+use Rattle.walk.specs.declared.Landing.{Landing}
+use Rattle.walk.specs.declared.Reached.{Reached}
 
 -- what the step on this card and state tells
 abbrev pub step_depth : ℕ → List ℕ → Memory → ℕ
@@ -150,7 +148,7 @@ module _ (greatest : ℕ) (c : List ℕ) (m : Memory) where
   unfolding step_checked step_refused
   checked_depth due e = bool_cases (eqb (header_refusal c m.nodes) 0) (λ q. rw q e) (λ q. rw q)
 
-  format_depth : (made : ℕ) (o : Option Store) → (step_format c m made o).memory.depth ≡ m.depth
+  format_depth : (made : ℕ) (o : Maybe Store) → (step_format c m made o).memory.depth ≡ m.depth
   unfolding step_format step_final idled formatting_from
   format_depth made none = refl
   format_depth made (some s) = refl
@@ -183,7 +181,7 @@ run_keeps greatest (cut ∷ qs) w u = absurd u.0
 
 -- ---- the final answer tells it
 
-told_final : (depth : ℕ) (a : Answer) (held : Option ℕ) → SmallAnswer a → step_reply a ≡ dictionary held → told_depth depth a ≡ depth
+told_final : (depth : ℕ) (a : Answer) (held : Maybe ℕ) → SmallAnswer a → step_reply a ≡ dictionary held → told_depth depth a ≡ depth
 unfolding step_reply told_depth dictionary
 told_final depth (Stored place) none s e = absurd (omega (arith, code_of e))
 told_final depth (Stored place) (some v) s e = absurd (omega (arith, code_of e))
@@ -195,7 +193,7 @@ told_final depth (Refused r) none s e = absurd (omega (arith, s, code_of e))
 told_final depth (Refused r) (some v) s e = absurd (omega (arith, s, code_of e))
 
 -- and no other answer does
-told_others : (depth : ℕ) (a : Answer) → ((held : Option ℕ) → step_reply a ≡ dictionary held → ⊥) → told_depth depth a ≡ 0
+told_others : (depth : ℕ) (a : Answer) → ((held : Maybe ℕ) → step_reply a ≡ dictionary held → ⊥) → told_depth depth a ≡ 0
 unfolding step_reply told_depth dictionary
 told_others depth (Stored place) n = refl
 told_others depth Ready n = refl
@@ -214,10 +212,10 @@ module _ (greatest : ℕ) (w : World (ration_table greatest)) (b : Book) (v : Co
       (only v.size) v.steps w b v.inv) ∙ passes greatest w.card v.size t (standing greatest w b v t k) key
 
   -- after a start that works, whatever calls come before the final answer
-  begun_tells : (key : ℕ) (doing : Doing) (room : Landing → Bool) (t : Tree) → WellFormed w.card t
+  begun_tells : (key : ℕ) (doing : Doing) (room : Option Landing → Bool) (t : Tree) → WellFormed w.card t
       → start_reply (start_of greatest 1 w.card w.state key doing room).begun ≡ started
       → (u : World (ration_table greatest)) → u ≡ record { card = w.card; state = (start_of greatest 1 w.card w.state key doing room).memory }
-      → (qs : List Event) → LeftUncut (ration_table greatest) qs u → (held : Option ℕ) → reply_to (ration_table greatest) step (run (ration_table greatest) qs u) ≡ dictionary held
+      → (qs : List Event) → LeftUncut (ration_table greatest) qs u → (held : Maybe ℕ) → reply_to (ration_table greatest) step (run (ration_table greatest) qs u) ≡ dictionary held
       → step_depth greatest (run (ration_table greatest) qs u).card (run (ration_table greatest) qs u).state ≡ passed_in key t
   unfolding start_accepted reply_to
   begun_tells key doing room t k e u is qs left held r =
@@ -229,15 +227,15 @@ module _ (greatest : ℕ) (w : World (ration_table greatest)) (b : Book) (v : Co
 
 -- ---- "A refusal carries none"
 
-found_not : (node : List ℕ) (s : Slot) → IsRefused (found_reply (found_in node s)) → ⊥
+found_not : (node : List ℕ) (s : Option ℕ) → IsRefused (found_reply (found_in node s)) → ⊥
 unfolding found_reply found_in
-found_not node (At i) h = omega arith
-found_not node NoSlot h = omega arith
+found_not node (Some i) h = omega arith
+found_not node None h = omega arith
 
-refused_depth : (c : List ℕ) (key : ℕ) (x : Reached) → IsRefused (found_reply (found_at c key x)) → depth_of x ≡ 0
+refused_depth : (c : List ℕ) (key : ℕ) (x : Option Reached) → IsRefused (found_reply (found_at c key x)) → depth_of x ≡ 0
 unfolding found_at depth_of
-refused_depth c key NotReached h = refl
-refused_depth c key (ReachedLeaf m depth) h = absurd (found_not (node_at c m) (slot_of (node_at c m) key) h)
+refused_depth c key None h = refl
+refused_depth c key (Some l) h = absurd (found_not (node_at c l.node) (slot_of (node_at c l.node) key) h)
 
 carried_none : (depth : ℕ) (s : Successor) → IsRefused (next_reply s) → carried depth s ≡ 0
 unfolding carried next_reply
@@ -252,7 +250,7 @@ find_refused greatest c key =
     (λ q. bool_cases (eqb key 0) (λ z. rw (q, line_one c, z) (λ h. refl)) (λ z. rw (q, line_one c, z) (at (leaf_of (way (seen 1 c) (nodes_of_length greatest (length c)) key)))))
     (λ q. rw q (λ h. refl))
   where
-    at : (x : Reached) → IsRefused (found_reply (found_at (seen 1 c) key x)) → depth_of x ≡ 0
+    at : (x : Option Reached) → IsRefused (found_reply (found_at (seen 1 c) key x)) → depth_of x ≡ 0
     at x h = refused_depth (seen 1 c) key x h
 
 next_refused : (greatest : ℕ) (c : List ℕ) (number : ℕ) → IsRefused (next_reply (next_of greatest 1 c number)) → next_depth greatest 1 c number ≡ 0

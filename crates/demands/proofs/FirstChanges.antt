@@ -15,7 +15,6 @@ use Rattle.card.proofs.Stores.{numbered}
 use Rattle.change_plan.specs.Planning.{without_all, first, second, third, with_all}
 use Rattle.theory_change.proofs.Line.{Line, Partition, Own, size, own_node, given_fresh, given_own, given_on_card, partition_after}
 use Rattle.walk.specs.Descent.{first_equal}
-use Rattle.walk.specs.declared.Slot.TheVariants.{At, Absent as NoSlot}
 use Rattle.demands.proofs.Shapes.{first_shape}
 use Rattle.theory_shapes.proofs.Bare.{bare, bare_context, bare_plug}
 use Rattle.theory_shapes.proofs.Next.{tagged_in, put_in, put_at, take_out, take_at}
@@ -51,6 +50,7 @@ use Rattle.theory_tree.specs.Tree.{Tree, node_total, leaf, node}
 use Rattle.theory_tree.proofs.Tree.{Context, plug, total_plug, top, down}
 use Rattle.theory_tree.proofs.Violations.{below}
 use Rattle.theory_tree.specs.Violations.{table_violations}
+use Rattle.std.specs.Prelude.{Some, None}
 
 pub leads_reach : (key : ℕ) (C : Context) → Leads key C → Reaches key C
 leads_reach key top p = tt
@@ -146,7 +146,7 @@ module _ (c : List ℕ) (line : Line) (key : ℕ) (free : List Bool) (C : Contex
           changes_put key v (pairs (plug C (leaf m ks vs))) (pairs (plug C (leaf m (set ks i key) (set vs i v)))) high absent
           (λ w. omega (arith, pairs_plug w C (leaf m ks vs) (leaf m (set ks i key) (set vs i v)), key_more w))
 
-      pub slot_shaped : first_equal ks 0 0 ≡ At i → bare slot_changing.next ≡ first_shape (put key v) (bare (plug C (leaf m ks vs)))
+      pub slot_shaped : first_equal ks 0 0 ≡ Some i → bare slot_changing.next ≡ first_shape (put key v) (bare (plug C (leaf m ks vs)))
       unfolding slot_changing with_all first_shape put_in put_at
       slot_shaped e =
           let c = changed_leaf (put_in key v) key (bare_context C) 0 ks vs (bare_reaches key C (leads_reach key C leads)) in
@@ -186,7 +186,7 @@ module _ (c : List ℕ) (line : Line) (key : ℕ) (free : List Bool) (C : Contex
           changes_remove key (get_or vs i 0) (pairs (plug C (leaf m ks vs))) (pairs (plug C (leaf m (set ks i 0) vs))) high (key_once lowest_key key_limit key (plug C (leaf m ks vs)) sound.range)
           (λ w. omega (arith, pairs_plug w C (leaf m ks vs) (leaf m (set ks i 0) vs), key_less w))
 
-      pub delete_shaped : first_equal ks key 0 ≡ At i → bare delete_changing.next ≡ first_shape (remove key) (bare (plug C (leaf m ks vs)))
+      pub delete_shaped : first_equal ks key 0 ≡ Some i → bare delete_changing.next ≡ first_shape (remove key) (bare (plug C (leaf m ks vs)))
       unfolding delete_changing with_all first_shape take_out take_at
       delete_shaped e =
           let c = changed_leaf (take_out key) key (bare_context C) 0 ks vs (bare_reaches key C (leads_reach key C leads)) in
@@ -270,7 +270,7 @@ module _ (c : List ℕ) (line : Line) (key : ℕ) (free : List Bool) (C : Contex
         unfolding split_changing
         split_enters = changes_put key v (pairs (plug C (leaf m ks vs))) (pairs (plug C part)) high absent (λ w. omega (arith, pairs_plug w C (leaf m ks vs) part, G.pair_more w))
 
-        pub split_shaped : first_equal ks 0 0 ≡ NoSlot → bare split_changing.next ≡ first_shape (put key v) (bare (plug C (leaf m ks vs)))
+        pub split_shaped : first_equal ks 0 0 ≡ None → bare split_changing.next ≡ first_shape (put key v) (bare (plug C (leaf m ks vs)))
         unfolding split_changing first_shape put_in put_at
         split_shaped e =
             let c = changed_leaf (put_in key v) key (bare_context C) 0 ks vs (bare_reaches key C (leads_reach key C leads)) in

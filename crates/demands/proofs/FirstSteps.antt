@@ -4,7 +4,7 @@ use mathlib.Core.Path.{◌≡◌, refl, ap, sym, subst, ◌∙◌}
 use mathlib.Core.Bool.{Bool, true, false}
 use mathlib.Core.List.{List, [], ◌∷◌}
 use mathlib.Core.Logic.{◌⊎◌, inl, inr}
-use mathlib.Core.Option.{Option, none, some}
+use mathlib.Core.Option.{Option as Maybe, none, some}
 use Prim.Native.Nat.{ℕ, ◌+◌, ◌≤◌, ◌<◌}
 use native.Mathlib.Omega.{arith}
 use lib.ListN.{length, get_or, drop}
@@ -32,10 +32,6 @@ use Rattle.demands.proofs.StepRows.{store_outside, formatting_rows, idle_rows, t
 use Rattle.demands.proofs.Work.{IdleOrTask, idle_or_task}
 use Rattle.demands.proofs.WayDown.{landed, slot_found, slot_among, leads_is, sized_on}
 use Rattle.walk.specs.Descent.{slot_of}
-use Rattle.walk.specs.declared.Landing.{Landing}
-use Rattle.walk.specs.declared.Landing.TheVariants.{Refused as NoLanding, Leaf as LandingAt}
-use Rattle.walk.specs.declared.Slot.{Slot}
-use Rattle.walk.specs.declared.Slot.TheVariants.{At, Absent as NoSlot}
 use Rattle.walk.proofs.DescentLaws.{slot_below}
 use Rattle.laws.proofs.Cases.{order, impossible}
 use Rattle.laws.specs.Sorting.{sort}
@@ -56,23 +52,26 @@ use Rattle.state.proofs.Tasks.{in_hand_lem, decided, TaskOf, putting, taking, pu
 use Rattle.call_step.specs.Calls.{planning, step_prepared, step_begin, step_task, step_of}
 use Rattle.call_change.specs.Updates.{landing, no_way, in_leaf, next_change}
 use Rattle.call_change.proofs.UpdateLaws.{landed as leaf_landed}
+use Rattle.std.specs.Prelude.{Option, Some, None}
+use Rattle.walk.proofs.DescentLaws.{landing_at}
+use Rattle.walk.specs.declared.Landing.{Landing}
 
 -- ---- the leaf
 
-found : (node : List ℕ) (x i : ℕ) → slot_of node x ≡ At i → among x (key_words node) ≡ true
+found : (node : List ℕ) (x i : ℕ) → slot_of node x ≡ Some i → among x (key_words node) ≡ true
 unfolding slot_of slot_found
 found node x i e = sym (slot_among (key_words node) x 0) ∙ ap slot_found e
 
-missing : (node : List ℕ) (x : ℕ) → slot_of node x ≡ NoSlot → among x (key_words node) ≡ false
+missing : (node : List ℕ) (x : ℕ) → slot_of node x ≡ None → among x (key_words node) ≡ false
 unfolding slot_of slot_found
 missing node x e = sym (slot_among (key_words node) x 0) ∙ ap slot_found e
 
 -- its slots are on the card
-module _ (greatest : ℕ) (c : List ℕ) (n key m link run : ℕ) (sized : Sized greatest (length c) n) (lands : landing c n key ≡ LandingAt m link run) where
+module _ (greatest : ℕ) (c : List ℕ) (n key m link run : ℕ) (sized : Sized greatest (length c) n) (lands : landing c n key ≡ landing_at m link run) where
   leaf_words : length (node_at c m) ≡ 24
   leaf_words = let k = leaf_landed greatest c n key m link run sized lands in length_node c m k.inside.one (omega (arith, k.inside.most, sized.words))
 
-  on_card_lem : (x i j : ℕ) → slot_of (node_at c m) x ≡ At i → j ≤ 12 + i → place m j < length c
+  on_card_lem : (x i j : ℕ) → slot_of (node_at c m) x ≡ Some i → j ≤ 12 + i → place m j < length c
   on_card_lem x i j e h =
       let k = leaf_landed greatest c n key m link run sized lands in
       omega (arith, k.inside.one, k.inside.most, sized.words, slot_below (node_at c m) x i leaf_words e)
@@ -118,7 +117,7 @@ module _ (greatest : ℕ) (c : List ℕ) (m : Memory) where
         given : (ms : List ℕ) → Given m.free m.last ms → length ms ≡ k → take_numbers k m.free m.last ≡ some ms
         given ms g n = subst (λ (x : ℕ). take_numbers x m.free m.last ≡ some ms) n (given_taken g)
 
-        go : (o : Option (List ℕ)) → take_numbers k m.free m.last ≡ o
+        go : (o : Maybe (List ℕ)) → take_numbers k m.free m.last ≡ o
             → Nine (NoneGiven c m.free m.last k) (step_prepared c m doing a (over_numbers m.free m.last change o))
         go none t = inl (λ ms g n h. let u = given ms g n in impossible (cc), refuses_none doing a)
         go (some ms) t =
@@ -149,11 +148,11 @@ module _ (greatest : ℕ) (c : List ℕ) (m : Memory) (key value : ℕ) (d : m.d
   unfolding work_of has_begun begun
   insert_work = rw d
 
-  insert_no_way : landing c m.nodes key ≡ NoLanding → inserted ≡ step_refused 9 c m
+  insert_no_way : landing c m.nodes key ≡ None → inserted ≡ step_refused 9 c m
   unfolding step_begin next_change in_leaf no_way step_prepared
   insert_no_way e = rw e
 
-  module _ (s : Sized greatest (length c) m.nodes) (leaf link run : ℕ) (lands : landing c m.nodes key ≡ LandingAt leaf link run) where
+  module _ (s : Sized greatest (length c) m.nodes) (leaf link run : ℕ) (lands : landing c m.nodes key ≡ landing_at leaf link run) where
     leads : leads_to c key ≡ some (leaf, run)
     unfolding landed
     leads = sym (leads_is c m.nodes key (sized_on greatest c m.nodes s)) ∙ ap landed lands
@@ -172,22 +171,22 @@ module _ (greatest : ℕ) (c : List ℕ) (m : Memory) (key value : ℕ) (d : m.d
     given_there (inl z) = absurd (none_some (leaf, run) (sym z ∙ leads))
     given_there (inr r) = r.3
 
-    insert_slot : (k : Slot) → slot_of (node_at c leaf) key ≡ k → (z : Slot) → slot_of (node_at c leaf) 0 ≡ z → Nine greatest c m InsertDue inserted
+    insert_slot : (k : Option ℕ) → slot_of (node_at c leaf) key ≡ k → (z : Option ℕ) → slot_of (node_at c leaf) 0 ≡ z → Nine greatest c m InsertDue inserted
     unfolding change_stores split_leaf node_image
-    insert_slot (At i) e z f =
+    insert_slot (Some i) e z f =
         subst (Nine greatest c m InsertDue) (sym (put_held greatest c m.nodes key leaf link run lands value m.free m.last m i e))
         (inr (
           not_due (λ r. in_leaf_lem r key r.2.absent (found (node_at c leaf) key i e)),
           answers greatest c m (Inserting key value InHand) (Value (get_or (node_at c leaf) (12 + i) 0)) (inr (inl (get_or (node_at c leaf) (12 + i) 0, refl))),
         ))
-    insert_slot NoSlot e (At i) f =
+    insert_slot None e (Some i) f =
         subst (Nine greatest c m InsertDue) (sym (put_slot greatest c m.nodes key leaf link run lands value m.free m.last m i e f))
         (inr (
           not_due (λ r. in_leaf_lem r 0 r.2.full (found (node_at c leaf) 0 i f)),
           stores_first greatest c m (Inserting key value InHand) Absent ((place leaf (12 + i), value) ∷ (place leaf (1 + i), key) ∷ []) m.free
               m.last [] insert_work (on_card_lem greatest c m.nodes key leaf link run s lands 0 i (12 + i) f (omega arith)),
         ))
-    insert_slot NoSlot e NoSlot f =
+    insert_slot None e None f =
         subst (Nine greatest c m InsertDue) (sym (put_full greatest c m.nodes key leaf link run lands value m.free m.last m e f))
         (same_nine greatest c m (NoneGiven c m.free m.last 3) InsertDue _
         (λ h. inr (leaf, run, record { leads = leads; absent = missing (node_at c leaf) key e; full = missing (node_at c leaf) 0 f }, h))
@@ -195,10 +194,10 @@ module _ (greatest : ℕ) (c : List ℕ) (m : Memory) (key value : ℕ) (d : m.d
         (over_given greatest c m (Inserting key value InHand) Absent insert_work 3
         (λ ms. split_leaf leaf link (sort ((key, value) ∷ leaf_pairs (node_at c leaf))) (first ms) (second ms) (third ms)) (λ ms. refl)))
 
-  insert_at_lem : Sized greatest (length c) m.nodes → (l : Landing) → landing c m.nodes key ≡ l → Nine greatest c m InsertDue inserted
+  insert_at_lem : Sized greatest (length c) m.nodes → (l : Option Landing) → landing c m.nodes key ≡ l → Nine greatest c m InsertDue inserted
   unfolding landed
-  insert_at_lem s NoLanding e = inl (inl (sym (leads_is c m.nodes key (sized_on greatest c m.nodes s)) ∙ ap landed e), rw (insert_no_way e) (refused_same greatest 9 c m))
-  insert_at_lem s (LandingAt leaf link run) e = insert_slot s leaf link run e (slot_of (node_at c leaf) key) refl (slot_of (node_at c leaf) 0) refl
+  insert_at_lem s None e = inl (inl (sym (leads_is c m.nodes key (sized_on greatest c m.nodes s)) ∙ ap landed e), rw (insert_no_way e) (refused_same greatest 9 c m))
+  insert_at_lem s (Some l) e = insert_slot s l.node l.link l.run e (slot_of (node_at c l.node) key) refl (slot_of (node_at c l.node) 0) refl
 
 -- ---- a delete
 
@@ -210,26 +209,26 @@ module _ (greatest : ℕ) (c : List ℕ) (m : Memory) (key before : ℕ) (d : m.
   unfolding work_of has_begun begun
   delete_work value = rw d
 
-  delete_no_way : landing c m.nodes key ≡ NoLanding → deleted ≡ step_refused 9 c m
+  delete_no_way : landing c m.nodes key ≡ None → deleted ≡ step_refused 9 c m
   unfolding step_begin next_change in_leaf no_way step_prepared
   delete_no_way e = rw e
 
   delete_slot : Sized greatest (length c) m.nodes → (leaf link run : ℕ)
-      → landing c m.nodes key ≡ LandingAt leaf link run → (k : Slot) → slot_of (node_at c leaf) key ≡ k → Works greatest c m deleted
-  delete_slot s leaf link run lands (At i) e =
+      → landing c m.nodes key ≡ landing_at leaf link run → (k : Option ℕ) → slot_of (node_at c leaf) key ≡ k → Works greatest c m deleted
+  delete_slot s leaf link run lands (Some i) e =
       subst (Works greatest c m) (sym (remove_held greatest c m.nodes key leaf link run lands before m.free m.last m i e))
       (stores_first greatest c m (Deleting key InHand (get_or (node_at c leaf) (12 + i) 0)) (Value (get_or (node_at c leaf) (12 + i) 0))
       ((place leaf (1 + i), 0) ∷ []) m.free m.last [] (delete_work (get_or (node_at c leaf) (12 + i) 0))
       (on_card_lem greatest c m.nodes key leaf link run s lands key i (1 + i) e (omega arith)))
-  delete_slot s leaf link run lands NoSlot e =
+  delete_slot s leaf link run lands None e =
       subst (Works greatest c m) (sym (remove_absent greatest c m.nodes key leaf link run lands before m.free m.last m e))
       (answers greatest c m (Deleting key InHand 0) Absent (inr (inr refl)))
 
-  delete_at_lem : Sized greatest (length c) m.nodes → (l : Landing) → landing c m.nodes key ≡ l → Nine greatest c m (leads_to c key ≡ none) deleted
+  delete_at_lem : Sized greatest (length c) m.nodes → (l : Option Landing) → landing c m.nodes key ≡ l → Nine greatest c m (leads_to c key ≡ none) deleted
   unfolding landed
-  delete_at_lem s NoLanding e = inl (sym (leads_is c m.nodes key (sized_on greatest c m.nodes s)) ∙ ap landed e, rw (delete_no_way e) (refused_same greatest 9 c m))
-  delete_at_lem s (LandingAt leaf link run) e =
-      inr (λ z. none_some (leaf, run) (sym z ∙ sym (leads_is c m.nodes key (sized_on greatest c m.nodes s)) ∙ ap landed e), delete_slot s leaf link run e (slot_of (node_at c leaf) key) refl)
+  delete_at_lem s None e = inl (sym (leads_is c m.nodes key (sized_on greatest c m.nodes s)) ∙ ap landed e, rw (delete_no_way e) (refused_same greatest 9 c m))
+  delete_at_lem s (Some l) e =
+      inr (λ z. none_some (l.node, l.run) (sym z ∙ sym (leads_is c m.nodes key (sized_on greatest c m.nodes s)) ∙ ap landed e), delete_slot s l.node l.link l.run e (slot_of (node_at c l.node) key) refl)
 
 -- ---- a repair
 

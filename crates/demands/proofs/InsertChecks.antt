@@ -31,7 +31,6 @@ use Rattle.demands.proofs.Work.{true_false}
 use Rattle.card.specs.Layout.{node_at, key_words, value_words, slot_pairs, leaf_pairs, key_limit}
 use Rattle.card.specs.Replies.{refusal}
 use Rattle.walk.specs.Descent.{slot_of}
-use Rattle.walk.specs.declared.Slot.TheVariants.{At}
 use Rattle.card_dump.proofs.AnswerLaws.{undamaged_whole, read_damaged, read_whole, room_long}
 use Rattle.card_dump.specs.Dump.{dump_words, read_answer, words_for, dump_nodes, damaged}
 use Rattle.card_dump.specs.Answer.{Length}
@@ -59,6 +58,7 @@ use Rattle.text_row.specs.Lines.{refusal_line}
 use Rattle.theory_tree.specs.Pairs.{pairs, lookup}
 use Rattle.theory_tree.specs.Tree.{Tree}
 use Rattle.theory_tree.specs.WellFormed.{WellFormed}
+use Rattle.std.specs.Prelude.{Some}
 
 -- ---- a leaf of eleven pairs has no empty slot
 
@@ -97,7 +97,7 @@ refused_eight greatest c m key value = (to, λ e. ap (λ (h : Handed). start_rep
 
 -- what a reason says of the leaf, of any card and state
 abbrev SlotAt : (greatest : ℕ) → ℕ → World (ration_table greatest) → Type 0
-SlotAt greatest key w = (leaf : ℕ) × (j : ℕ) × (i : ℕ) × LeadsTo greatest w key leaf j × (slot_of (node_at w.card leaf) 0 ≡ At i)
+SlotAt greatest key w = (leaf : ℕ) × (j : ℕ) × (i : ℕ) × LeadsTo greatest w key leaf j × (slot_of (node_at w.card leaf) 0 ≡ Some i)
 
 abbrev FullAt : (greatest : ℕ) → ℕ → ℕ → World (ration_table greatest) → Type 0
 FullAt greatest key j w = (leaf : ℕ) × LeadsTo greatest w key leaf j × (length (leaf_pairs (node_at w.card leaf)) ≡ 11)
@@ -145,7 +145,7 @@ module _ (greatest : ℕ) (c : List ℕ) where
       tells (Held v) e h = inl (record { value = v; found = found_after (some v) h; printed = e })
       tells EmptySlot e h =
           let (leaf, j, i, to, s) = subst (SlotAt greatest key) is_after h.1 in
-          inr (inl (record { leaf = leaf; j = j; place = absent_at leaf j h.0 to; empty = sym (slot_is (node_at after.card leaf) 0 (At i) s); printed = e }))
+          inr (inl (record { leaf = leaf; j = j; place = absent_at leaf j h.0 to; empty = sym (slot_is (node_at after.card leaf) 0 (Some i) s); printed = e }))
       tells (Split j free need) e h =
           let (leaf, to, eleven) = subst (FullAt greatest key j) is_after h.1 in
           let are_free : free ≡ count_true after.state.free = sym h.2 ∙ ap (λ (x : World (ration_table greatest)). count_true x.state.free) is_after in

@@ -27,7 +27,6 @@ use Rattle.state.specs.Answer.{Stored, Ready, Absent, Value, Refused}
 use Rattle.state.specs.declared.Doing.{Doing}
 use Rattle.state.specs.declared.Doing.TheVariants.{Idle}
 use Rattle.walk.specs.Descent.{way, leaf_of, depth_of}
-use Rattle.walk.specs.declared.Landing.{Landing}
 use Rattle.call_change.specs.Updates.{landing}
 use Rattle.call_start.specs.Starts.{start_refused, start_landed, start_checked, start_of}
 use Rattle.call_step.specs.Calls.{placed_on, on_card, step_held, step_of}
@@ -41,6 +40,8 @@ use Rattle.demands.proofs.Invariant.{Stage, Inv, Toward, stage_idle, stage_put, 
 use Rattle.demands.proofs.Starting.{nodes_same, start_checked_lem}
 use Rattle.demands.proofs.Steps.{Busy, job_busy, put_busy, remove_busy, idle_refused as idle_step}
 use Rattle.demands.proofs.Stepping.{Right, Moves, was_idle, ends_now, goes_further, kept_step}
+use Rattle.std.specs.Prelude.{Option}
+use Rattle.walk.specs.declared.Landing.{Landing}
 
 -- nothing is being done, or a task is held
 stage_work : {c : List ℕ} {line : Line} {t goal : Tree} {steps : ℕ} {m : Memory} {h : Hand} {due : Answer} → Stage c line t goal steps m h due → (m.doing ≡ Idle) ⊎ Busy m.doing
@@ -174,7 +175,7 @@ pub seen_again : (line : ℕ) (c : List ℕ) → seen 1 (seen line c) ≡ seen l
 unfolding seen
 seen_again line c = refl
 
-module _ (greatest line : ℕ) (c : List ℕ) (m : Memory) (key : ℕ) (doing : Doing) (room : Landing → Bool) (has : has_line c line ≡ true) where
+module _ (greatest line : ℕ) (c : List ℕ) (m : Memory) (key : ℕ) (doing : Doing) (room : Option Landing → Bool) (has : has_line c line ≡ true) where
   -- what is due on the line's table, seen once or twice
   abbrev landed : List ℕ → Handed
   landed table = start_landed m doing (depth_of (leaf_of (way table m.nodes key))) (room (landing table m.nodes key)) (landing table m.nodes key)

@@ -15,10 +15,6 @@ use Rattle.theory_change.proofs.LeafRows.{length_pair_keys, length_pair_values}
 use Rattle.theory_change.proofs.Mended.{length_node_stores}
 use Rattle.theory_change.proofs.Rewrite.{AllFew}
 use Rattle.walk.specs.Descent.{first_equal, slot_of}
-use Rattle.walk.specs.declared.Landing.{Landing}
-use Rattle.walk.specs.declared.Landing.TheVariants.{Refused as NoLanding, Leaf as LandingAt}
-use Rattle.walk.specs.declared.Slot.{Slot}
-use Rattle.walk.specs.declared.Slot.TheVariants.{At, Absent as NoSlot}
 use Rattle.change_plan.specs.Change.{change_stores, kind_above, split_leaf}
 use Rattle.change_plan.specs.Planning.{prepared}
 use Rattle.call_change.specs.Updates.{landing, empty_reason, reason_in, insert_reason, insert_change, delete_change, insert_in, delete_in, no_way, in_leaf, next_change}
@@ -32,6 +28,9 @@ use Rattle.demands.proofs.WayDown.{landed, leads_is, slot_found, slot_among}
 use Rattle.laws.proofs.Cases.{impossible}
 use Rattle.laws.specs.Sorting.{key_at}
 use Rattle.laws.proofs.Sorting.{length_sort}
+use Rattle.std.specs.Prelude.{Option, Some, None}
+use Rattle.walk.proofs.DescentLaws.{landing_at}
+use Rattle.walk.specs.declared.Landing.{Landing}
 
 -- ---- the slots of a leaf
 
@@ -41,7 +40,7 @@ record FirstAt (ws : List ℕ) (x i : ℕ) : Type 0 where
   stands : get_or ws i 0 ≡ x
   first : (y : ℕ) → y < i → get_or ws y 0 ≡ x → ⊥
 
-first_at : (ws : List ℕ) (x j i : ℕ) → first_equal ws x j ≡ At i → (k : ℕ) × (i ≡ j + k) × FirstAt ws x k
+first_at : (ws : List ℕ) (x j i : ℕ) → first_equal ws x j ≡ Some i → (k : ℕ) × (i ≡ j + k) × FirstAt ws x k
 unfolding first_equal
 first_at [] x j i e = impossible (cc)
 first_at (w ∷ ws) x j i e = go (λ z. first_at ws x (suc j) i z) e
@@ -50,17 +49,17 @@ first_at (w ∷ ws) x j i e = go (λ z. first_at ws x (suc j) i z) e
     later k q f zero h s = eqb-false w x q s
     later k q f (suc y) h s = f.first y (omega arith) s
 
-    go : (first_equal ws x (suc j) ≡ At i → (k : ℕ) × (i ≡ suc j + k) × FirstAt ws x k) → first_equal (w ∷ ws) x j ≡ At i → (k : ℕ) × (i ≡ j + k) × FirstAt (w ∷ ws) x k
+    go : (first_equal ws x (suc j) ≡ Some i → (k : ℕ) × (i ≡ suc j + k) × FirstAt ws x k) → first_equal (w ∷ ws) x j ≡ Some i → (k : ℕ) × (i ≡ j + k) × FirstAt (w ∷ ws) x k
     go ih e =
         picked (eqb w x) e
         (λ q z. let s : j ≡ i = cc in (0, omega arith, record { within = omega arith; stands = eqb-true w x q; first = λ y h s. absurd (omega arith) }))
         (λ q z. let r = ih z in (suc r.0, omega (arith, r.1), record { within = omega (arith, r.2.within); stands = r.2.stands; first = later r.0 q r.2 }))
 
-slot_at : (node : List ℕ) (x i : ℕ) → slot_of node x ≡ At i → FirstAt (key_words node) x i
+slot_at : (node : List ℕ) (x i : ℕ) → slot_of node x ≡ Some i → FirstAt (key_words node) x i
 unfolding slot_of
 slot_at node x i e = let r = first_at (key_words node) x 0 i e in let s : r.0 ≡ i = omega (arith, r.1) in rw s at r.2
 
-no_slot : (node : List ℕ) (x : ℕ) → slot_of node x ≡ NoSlot → among x (key_words node) ≡ false
+no_slot : (node : List ℕ) (x : ℕ) → slot_of node x ≡ None → among x (key_words node) ≡ false
 unfolding slot_of slot_found
 no_slot node x e = sym (slot_among (key_words node) x 0) ∙ ap slot_found e
 
@@ -71,7 +70,7 @@ slots_of_eleven node = omega (arith, length-take 11 (drop 1 node))
 -- ---- the leaf that the key leads to
 
 -- the demands' way down leads where the calls land
-module _ (c : List ℕ) (n key m link run : ℕ) (on : nodes_on c ≡ n) (lands : landing c n key ≡ LandingAt m link run) where
+module _ (c : List ℕ) (n key m link run : ℕ) (on : nodes_on c ≡ n) (lands : landing c n key ≡ landing_at m link run) where
   leads : leads_to c key ≡ some (m, run)
   unfolding landed
   leads = sym (leads_is c n key on) ∙ ap landed lands
@@ -80,13 +79,13 @@ module _ (c : List ℕ) (n key m link run : ℕ) (on : nodes_on c ≡ n) (lands 
 
 module _ (c : List ℕ) (n key : ℕ) (on : nodes_on c ≡ n) {free : List Bool} {last : ℕ} {ss : List Store} {fewer : List Bool} {now : ℕ} {cut : List ℕ} where
   -- "With an empty slot: value first, then key, in the lowest empty slot. Leaf full: the 12 pairs go 6 and 6 into two leaves .."
-  insert_in_lem : (value m link run : ℕ) → landing c n key ≡ LandingAt m link run → among key (key_words (node_at c m)) ≡ false → (s : Slot) → slot_of (node_at c m) 0 ≡ s
+  insert_in_lem : (value m link run : ℕ) → landing c n key ≡ landing_at m link run → among key (key_words (node_at c m)) ≡ false → (s : Option ℕ) → slot_of (node_at c m) 0 ≡ s
       → (insert_change key value free last m link (node_at c m) (empty_reason s)).preparation ≡ prepared ss fewer now cut → ByRule (InsertRule c key value) free last ss fewer now cut
   unfolding insert_change empty_reason change_stores split_leaf kind_above
-  insert_in_lem value m link run l absent (At i) f e =
+  insert_in_lem value m link run l absent (Some i) f e =
       let slot = slot_at (node_at c m) 0 i f in
       none_taken (in_slot i (leads c n key m link run on l) absent (omega (arith, slot.within, slots_of_eleven (node_at c m)), slot.stands, slot.first)) e
-  insert_in_lem value m link run l absent NoSlot f e =
+  insert_in_lem value m link run l absent None f e =
       let there = landing_linked c n key m link run l in
       giving_three _ e (λ x y z. leaf_split x y z _ (record { leads = leads c n key m link run on l; absent = absent; full = no_slot (node_at c m) 0 f }) there.0 refl)
 
@@ -95,15 +94,15 @@ module _ (c : List ℕ) (n key : ℕ) (on : nodes_on c ≡ n) {free : List Bool}
   unfolding next_change in_leaf no_way insert_reason reason_in insert_change
   insert_by_rule doing value e = on_landing (landing c n key) refl e
     where
-      on_slot : (m link run : ℕ) → landing c n key ≡ LandingAt m link run → (s : Slot) → slot_of (node_at c m) key ≡ s
+      on_slot : (m link run : ℕ) → landing c n key ≡ landing_at m link run → (s : Option ℕ) → slot_of (node_at c m) key ≡ s
           → (insert_change key value free last m link (node_at c m) (reason_in (node_at c m) s)).preparation ≡ prepared ss fewer now cut → ByRule (InsertRule c key value) free last ss fewer now cut
-      on_slot m link run l (At i) f z = absurd (not_balanced z)
-      on_slot m link run l NoSlot f z = insert_in_lem value m link run l (no_slot (node_at c m) key f) (slot_of (node_at c m) 0) refl z
+      on_slot m link run l (Some i) f z = absurd (not_balanced z)
+      on_slot m link run l None f z = insert_in_lem value m link run l (no_slot (node_at c m) key f) (slot_of (node_at c m) 0) refl z
 
-      on_landing : (l : Landing) → landing c n key ≡ l → (in_leaf c doing (insert_in key value free last) l).preparation ≡ prepared ss fewer now cut
+      on_landing : (l : Option Landing) → landing c n key ≡ l → (in_leaf c doing (insert_in key value free last) l).preparation ≡ prepared ss fewer now cut
           → ByRule (InsertRule c key value) free last ss fewer now cut
-      on_landing NoLanding f z = absurd (not_refused z)
-      on_landing (LandingAt m link run) f z = on_slot m link run f (slot_of (node_at c m) key) refl z
+      on_landing None f z = absurd (not_refused z)
+      on_landing (Some l) f z = on_slot l.node l.link l.run f (slot_of (node_at c l.node) key) refl z
 
   -- "Delete: key word to 0"
   pub delete_by_rule : (doing : Doing) → (next_change c n free last doing (TakeOut key)).preparation ≡ prepared ss fewer now cut
@@ -111,17 +110,17 @@ module _ (c : List ℕ) (n key : ℕ) (on : nodes_on c ≡ n) {free : List Bool}
   unfolding next_change in_leaf no_way delete_change
   delete_by_rule doing e = on_landing (landing c n key) refl e
     where
-      on_slot : (m link run : ℕ) → landing c n key ≡ LandingAt m link run → (s : Slot) → slot_of (node_at c m) key ≡ s
+      on_slot : (m link run : ℕ) → landing c n key ≡ landing_at m link run → (s : Option ℕ) → slot_of (node_at c m) key ≡ s
           → (delete_change key free last m (node_at c m) s).preparation ≡ prepared ss fewer now cut → ByRule (DeleteRule c key) free last ss fewer now cut
-      on_slot m link run l (At i) f z =
+      on_slot m link run l (Some i) f z =
           let slot = slot_at (node_at c m) key i f in
           none_taken (key_cleared i (leads c n key m link run on l) (omega (arith, slot.within, slots_of_eleven (node_at c m)), slot.stands, slot.first)) z
-      on_slot m link run l NoSlot f z = absurd (not_balanced z)
+      on_slot m link run l None f z = absurd (not_balanced z)
 
-      on_landing : (l : Landing) → landing c n key ≡ l → (in_leaf c doing (delete_in key free last) l).preparation ≡ prepared ss fewer now cut
+      on_landing : (l : Option Landing) → landing c n key ≡ l → (in_leaf c doing (delete_in key free last) l).preparation ≡ prepared ss fewer now cut
           → ByRule (DeleteRule c key) free last ss fewer now cut
-      on_landing NoLanding f z = absurd (not_refused z)
-      on_landing (LandingAt m link run) f z = on_slot m link run f (slot_of (node_at c m) key) refl z
+      on_landing None f z = absurd (not_refused z)
+      on_landing (Some l) f z = on_slot l.node l.link l.run f (slot_of (node_at c l.node) key) refl z
 
 -- ---- "So a change is at most 73 stores."
 

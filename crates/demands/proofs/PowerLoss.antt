@@ -56,19 +56,19 @@ use Rattle.card.specs.Layout.{depth_limit, formatted_root}
 use Rattle.theory_shapes.proofs.Whole.{settled_by}
 use Rattle.theory_tree.specs.WellFormed.{WellFormed}
 use Rattle.theory_tree.specs.Violations.{few, table_violations}
+use Rattle.std.specs.Prelude.{Option, Some, None}
 use Rattle.walk.specs.declared.Landing.{Landing}
-use Rattle.walk.specs.declared.Landing.TheVariants.{Refused as NoLanding, Leaf as LandingAt}
 
 -- ---- a refused start changes nothing
 
-start_landed_unchanged : (m : Memory) (doing : Doing) (depth : ℕ) (room : Bool) (x : Landing) (r : ℕ) → (start_landed m doing depth room x).begun ≡ BegunRefused r
+start_landed_unchanged : (m : Memory) (doing : Doing) (depth : ℕ) (room : Bool) (x : Option Landing) (r : ℕ) → (start_landed m doing depth room x).begun ≡ BegunRefused r
     → (start_landed m doing depth room x).memory ≡ m
 unfolding start_landed start_refused start_accepted
-start_landed_unchanged m doing depth room NoLanding r e = refl
-start_landed_unchanged m doing depth true (LandingAt number link run) r e = impossible (cc)
-start_landed_unchanged m doing depth false (LandingAt number link run) r e = refl
+start_landed_unchanged m doing depth room None r e = refl
+start_landed_unchanged m doing depth true (Some l) r e = impossible (cc)
+start_landed_unchanged m doing depth false (Some l) r e = refl
 
-start_unchanged : (greatest : ℕ) (c : List ℕ) (m : Memory) (key : ℕ) (doing : Doing) (room : Landing → Bool) (r : ℕ)
+start_unchanged : (greatest : ℕ) (c : List ℕ) (m : Memory) (key : ℕ) (doing : Doing) (room : Option Landing → Bool) (r : ℕ)
     → (start_of greatest 1 c m key doing room).begun ≡ BegunRefused r → (start_of greatest 1 c m key doing room).memory ≡ m
 unfolding start_of start_checked start_refused start_accepted has_line
 start_unchanged greatest c m key doing room r e =
@@ -79,7 +79,7 @@ start_unchanged greatest c m key doing room r e =
     bool_cases (eqb key 0) (λ q₄. rw (q, q₁, q₂, q₃, q₄)) (λ q₄. rw (q, q₁, q₂, q₃, q₄) (landed_unchanged (landing (seen 1 c) m.nodes key) (rw (q, q₁, q₂, q₃, q₄) at e))))
     (λ q₃. rw (q, q₁, q₂, q₃))) (λ q₂. rw (q, q₁, q₂))) (λ q₁. rw (q, q₁)))
   where
-    landed_unchanged : (x : Landing) → (start_landed m doing (start_depth 1 c m key) (room (landing (seen 1 c) m.nodes key)) x).begun ≡ BegunRefused r
+    landed_unchanged : (x : Option Landing) → (start_landed m doing (start_depth 1 c m key) (room (landing (seen 1 c) m.nodes key)) x).begun ≡ BegunRefused r
         → (start_landed m doing (start_depth 1 c m key) (room (landing (seen 1 c) m.nodes key)) x).memory ≡ m
     landed_unchanged x e = start_landed_unchanged m doing (start_depth 1 c m key) (room (landing (seen 1 c) m.nodes key)) x r e
 

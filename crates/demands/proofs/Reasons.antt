@@ -14,8 +14,6 @@ use Rattle.card.proofs.HeaderLaws.{sized_nodes}
 use Rattle.card.specs.Layout.{lowest_key, key_limit, node_at, leaf_pairs}
 use Rattle.card.proofs.NodeLaws.{length_node}
 use Rattle.walk.specs.Descent.{slot_of}
-use Rattle.walk.specs.declared.Slot.{Slot}
-use Rattle.walk.specs.declared.Slot.TheVariants.{At, Absent as NoSlot}
 use Rattle.theory_walk.proofs.Find.{slot_answer}
 use Rattle.theory_walk.proofs.Landing.{LandedAt, landing_found}
 use Rattle.card_free.specs.NodeSet.{count_true}
@@ -45,6 +43,8 @@ use Rattle.theory_tree.specs.WellFormed.{WellFormed}
 use Rattle.call_start.specs.Starts.{start_refused, insert_of}
 use Rattle.call_change.proofs.UpdateLaws.{leaf_full_lem, landed}
 use Rattle.call_change.specs.Updates.{landing, empty_reason, reason_in, insert_reason, split_need, held, slot, full, Reason as InLeaf}
+use Rattle.walk.proofs.DescentLaws.{same_landing}
+use Rattle.std.specs.Prelude.{Option, Some, None}
 
 -- What each reason says of the card's map and of the card as the repair leaves it: the key's value; or that it has none and that the
 -- leaf it leads to has an empty slot; or that it has none, that this leaf is full, how many 11-child nodes without a break stand
@@ -55,7 +55,7 @@ ReasonHolds greatest c t key NoKey = ⊥
 ReasonHolds greatest c t key (Held v) = lookup key (pairs t) ≡ some v
 ReasonHolds greatest c t key EmptySlot =
     (lookup key (pairs t) ≡ none) × ((leaf : ℕ) × (j : ℕ) × (i : ℕ)
-    × LeadsTo greatest (world_from greatest (opened_card greatest c)) key leaf j × (slot_of (node_at (opened_card greatest c).card leaf) 0 ≡ At i))
+    × LeadsTo greatest (world_from greatest (opened_card greatest c)) key leaf j × (slot_of (node_at (opened_card greatest c).card leaf) 0 ≡ Some i))
 ReasonHolds greatest c t key (Split j free need) =
     (lookup key (pairs t) ≡ none)
     × ((leaf : ℕ) × LeadsTo greatest (world_from greatest (opened_card greatest c)) key leaf j × (length (leaf_pairs (node_at (opened_card greatest c).card leaf)) ≡ 11))
@@ -140,54 +140,53 @@ module _ (greatest : ℕ) (c : List ℕ) (t : Tree) (accepted : Opens (ration_ta
         same_leaf : found.number ≡ leaf
         same_leaf =
             let e = sym found.landed ∙ ap (λ (n : ℕ). landing (opened_card greatest c).card n key) (sym same_nodes) ∙ leads.2.1 in
-            let z : found.number ≡ leaf = cc in
-            z
+            (same_landing _ _ _ _ _ _ e).0
 
     -- what the leaf has of the key, by its reason
     leaf_held : (words : List ℕ) (k v : ℕ) → insert_reason words k ≡ held v → slot_answer words (slot_of words k) ≡ some v
     unfolding insert_reason reason_in empty_reason slot_answer
     leaf_held words k v = go (slot_of words k)
       where
-        empty : (s : Slot) → empty_reason s ≡ held v → ⊥
-        empty (At i) e = let z : ◌≡◌ {A = ℕ} 0 1 = cc in omega arith
-        empty NoSlot e = let z : ◌≡◌ {A = ℕ} 0 1 = cc in omega arith
+        empty : (s : Option ℕ) → empty_reason s ≡ held v → ⊥
+        empty (Some i) e = let z : ◌≡◌ {A = ℕ} 0 1 = cc in omega arith
+        empty None e = let z : ◌≡◌ {A = ℕ} 0 1 = cc in omega arith
 
-        go : (s : Slot) → reason_in words s ≡ held v → slot_answer words s ≡ some v
-        go (At i) e = let z : get_or words (12 + i) 0 ≡ v = cc in ap some z
-        go NoSlot e = absurd (empty (slot_of words 0) e)
+        go : (s : Option ℕ) → reason_in words s ≡ held v → slot_answer words s ≡ some v
+        go (Some i) e = let z : get_or words (12 + i) 0 ≡ v = cc in ap some z
+        go None e = absurd (empty (slot_of words 0) e)
 
-    leaf_absent : (words : List ℕ) (k : ℕ) (s : Slot) → insert_reason words k ≡ empty_reason s → slot_answer words (slot_of words k) ≡ none
+    leaf_absent : (words : List ℕ) (k : ℕ) (s : Option ℕ) → insert_reason words k ≡ empty_reason s → slot_answer words (slot_of words k) ≡ none
     unfolding insert_reason reason_in empty_reason slot_answer
     leaf_absent words k s = go (slot_of words k) s
       where
-        go : (q s : Slot) → reason_in words q ≡ empty_reason s → slot_answer words q ≡ none
-        go NoSlot s e = refl
-        go (At i) (At m) e = let z : ◌≡◌ {A = ℕ} 0 1 = cc in absurd (omega arith)
-        go (At i) NoSlot e = let z : ◌≡◌ {A = ℕ} 0 1 = cc in absurd (omega arith)
+        go : (q s : Option ℕ) → reason_in words q ≡ empty_reason s → slot_answer words q ≡ none
+        go None s e = refl
+        go (Some i) (Some m) e = let z : ◌≡◌ {A = ℕ} 0 1 = cc in absurd (omega arith)
+        go (Some i) None e = let z : ◌≡◌ {A = ℕ} 0 1 = cc in absurd (omega arith)
 
-    leaf_slot : (words : List ℕ) (k i : ℕ) → insert_reason words k ≡ slot i → slot_of words 0 ≡ At i
+    leaf_slot : (words : List ℕ) (k i : ℕ) → insert_reason words k ≡ slot i → slot_of words 0 ≡ Some i
     unfolding insert_reason reason_in empty_reason
     leaf_slot words k i = go (slot_of words k)
       where
-        empty : (s : Slot) → empty_reason s ≡ slot i → s ≡ At i
-        empty (At m) e = let z : m ≡ i = cc in ap At z
-        empty NoSlot e = let z : ◌≡◌ {A = ℕ} 0 1 = cc in absurd (omega arith)
+        empty : (s : Option ℕ) → empty_reason s ≡ slot i → s ≡ Some i
+        empty (Some m) e = let z : m ≡ i = cc in ap Some z
+        empty None e = let z : ◌≡◌ {A = ℕ} 0 1 = cc in absurd (omega arith)
 
-        go : (s : Slot) → reason_in words s ≡ slot i → slot_of words 0 ≡ At i
-        go (At m) e = let z : ◌≡◌ {A = ℕ} 0 1 = cc in absurd (omega arith)
-        go NoSlot e = empty (slot_of words 0) e
+        go : (s : Option ℕ) → reason_in words s ≡ slot i → slot_of words 0 ≡ Some i
+        go (Some m) e = let z : ◌≡◌ {A = ℕ} 0 1 = cc in absurd (omega arith)
+        go None e = empty (slot_of words 0) e
 
-    leaf_no_slot : (words : List ℕ) (k : ℕ) → insert_reason words k ≡ full → slot_of words 0 ≡ NoSlot
+    leaf_no_slot : (words : List ℕ) (k : ℕ) → insert_reason words k ≡ full → slot_of words 0 ≡ None
     unfolding insert_reason reason_in empty_reason
     leaf_no_slot words k = go (slot_of words k)
       where
-        empty : (s : Slot) → empty_reason s ≡ full → s ≡ NoSlot
-        empty (At m) e = let z : ◌≡◌ {A = ℕ} 0 1 = cc in absurd (omega arith)
-        empty NoSlot e = refl
+        empty : (s : Option ℕ) → empty_reason s ≡ full → s ≡ None
+        empty (Some m) e = let z : ◌≡◌ {A = ℕ} 0 1 = cc in absurd (omega arith)
+        empty None e = refl
 
-        go : (s : Slot) → reason_in words s ≡ full → slot_of words 0 ≡ NoSlot
-        go (At m) e = let z : ◌≡◌ {A = ℕ} 0 1 = cc in absurd (omega arith)
-        go NoSlot e = empty (slot_of words 0) e
+        go : (s : Option ℕ) → reason_in words s ≡ full → slot_of words 0 ≡ None
+        go (Some m) e = let z : ◌≡◌ {A = ℕ} 0 1 = cc in absurd (omega arith)
+        go None e = empty (slot_of words 0) e
 
     leaf_words : length (node_at (opened_card greatest c).card leaf) ≡ 24
     leaf_words =
@@ -204,11 +203,11 @@ module _ (greatest : ℕ) (c : List ℕ) (t : Tree) (accepted : Opens (ration_ta
         go : (r : InLeaf) → leaf_reason ≡ r → ReasonHolds greatest c t key (reason_for r run_above (count_true (opened_card greatest c).memory.free))
         go (held v) e = sym answered ∙ leaf_held (node_at (opened_card greatest c).card leaf) key v e
         go (slot i) e = (
-          sym answered ∙ leaf_absent (node_at (opened_card greatest c).card leaf) key (At i) e,
+          sym answered ∙ leaf_absent (node_at (opened_card greatest c).card leaf) key (Some i) e,
           (leaf, run_above, i, leads.2, leaf_slot (node_at (opened_card greatest c).card leaf) key i e),
         )
         go full e = (
-          sym answered ∙ leaf_absent (node_at (opened_card greatest c).card leaf) key NoSlot e,
+          sym answered ∙ leaf_absent (node_at (opened_card greatest c).card leaf) key None e,
           (leaf, leads.2, leaf_full_lem (node_at (opened_card greatest c).card leaf) leaf_words (leaf_no_slot (node_at (opened_card greatest c).card leaf) key e)),
           refl,
           refl,

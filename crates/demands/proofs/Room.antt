@@ -20,11 +20,11 @@ use Rattle.demands.proofs.Starting.{lands, room_decides}
 use Rattle.demands.specs.Book.{Book}
 use Rattle.demands.specs.Events.{World}
 use Rattle.demands.specs.RationTable.{ration_table}
-use Rattle.walk.specs.declared.Landing.TheVariants.{Leaf as LandingAt}
+use Rattle.walk.proofs.DescentLaws.{landing_at}
 
 -- the leaf that a key leads to, and j, "the number of 11-child nodes without a break straight above" it
 abbrev pub LeadsTo : (greatest : ℕ) → World (ration_table greatest) → ℕ → ℕ → ℕ → Type 0
-LeadsTo greatest w key leaf j = (link : ℕ) × (landing w.card w.state.nodes key ≡ LandingAt leaf link j)
+LeadsTo greatest w key leaf j = (link : ℕ) × (landing w.card w.state.nodes key ≡ landing_at leaf link j)
 
 module _ (greatest : ℕ) {n steps : ℕ} {w : World (ration_table greatest)} {b : Book} (i : Inv greatest (only n) steps w b) (key : ℕ) (low : lowest_key ≤ key) (high : key < key_limit) where
   -- the leaf that a key leads to, at any moment

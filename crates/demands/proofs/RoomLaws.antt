@@ -10,9 +10,9 @@ use Rattle.state.specs.Memory.{Memory}
 use Rattle.call_change.specs.Updates.{Reason, held, slot, full, landing, insert_reason, split_need, room_for, start_room}
 use Rattle.state.specs.declared.Doing.{Doing}
 use Rattle.state.specs.Begun.{Started}
-use Rattle.walk.specs.declared.Landing.TheVariants.{Leaf as LandingAt}
+use Rattle.walk.proofs.DescentLaws.{landing_at}
 
-pub room_at : (c : List ℕ) (n key : ℕ) (room : ℕ) (leaf link j : ℕ) → landing c n key ≡ LandingAt leaf link j
+pub room_at : (c : List ℕ) (n key : ℕ) (room : ℕ) (leaf link j : ℕ) → landing c n key ≡ landing_at leaf link j
     → start_room c key room (landing c n key) ≡ room_for room j (insert_reason (node_at c leaf) key)
 unfolding start_room
 room_at c n key room leaf link j e = ap (start_room c key room) e

@@ -3,7 +3,7 @@ use mathlib.Core.Path.{◌≡◌, refl, sym, ap, subst, ◌∙◌}
 use mathlib.Core.Bool.{Bool, true, false}
 use mathlib.Core.List.{List, [], ◌∷◌, ◌++◌}
 use mathlib.Core.Logic.{◌⊎◌, inl, inr}
-use mathlib.Core.Option.{Option, none, some}
+use mathlib.Core.Option.{Option as Maybe, none, some}
 use Prim.Native.Nat.{ℕ, zero, suc, ◌≤◌, ◌<◌}
 use native.Mathlib.Omega.{arith}
 use native.Mathlib.Decide.{ℕ_discrete}
@@ -32,8 +32,6 @@ use Rattle.call_start.specs.Starts.{start_refused, start_accepted, start_landed,
 use Rattle.call_step.specs.Calls.{planning, step_prepared, step_begin, step_task, step_checked, step_held, step_of}
 use Rattle.call_step.proofs.StepLaws.{step_sized, step_unsized}
 use Rattle.theory_format.proofs.FreshTable.{format_fresh}
-use Rattle.walk.specs.declared.Landing.{Landing}
-use Rattle.walk.specs.declared.Landing.TheVariants.{Refused as NoLanding, Leaf as LandingAt}
 use Rattle.demands.specs.Events.{Event, World, happens, run, Begins, ask, insert, delete, step, cut, from_format, from_open}
 use Rattle.demands.specs.RationTable.{ration_table}
 use Rattle.demands.specs.Rules.{Given, none_given, then_given, marked, written, InsertRule, DeleteRule, RepairRule}
@@ -49,6 +47,8 @@ use Rattle.demands.proofs.PowerLoss.{fresh_world}
 use Rattle.demands.proofs.PlannedNumbers.{ByRule}
 use Rattle.demands.proofs.PlannedRepairs.{repair_by_rule}
 use Rattle.demands.proofs.PlannedUpdates.{insert_by_rule, delete_by_rule}
+use Rattle.std.specs.Prelude.{Option, Some, None}
+use Rattle.walk.specs.declared.Landing.{Landing}
 
 -- ---- a node that is given is no longer free
 
@@ -162,7 +162,7 @@ module _ (greatest : ℕ) (c : List ℕ) (m : Memory) where
   unfolding step_checked step_refused
   checked_holds due h = bool_cases (eqb (header_refusal c m.nodes) 0) (λ q. rw q h) (λ q. rw q (λ e. refl))
 
-  format_holds : (made : ℕ) (o : Option Store) → Keeps (step_format c m made o).memory
+  format_holds : (made : ℕ) (o : Maybe Store) → Keeps (step_format c m made o).memory
   unfolding step_format step_final idled formatting_from
   format_holds made none = λ e. refl
   format_holds made (some s) = λ e. refl
@@ -185,12 +185,12 @@ module _ (greatest : ℕ) (c : List ℕ) (m : Memory) where
 
   -- ---- a start, refused or not, keeps the node given last
 
-  landed_last : (doing : Doing) (depth : ℕ) (room : Bool) (l : Landing) → (start_landed m doing depth room l).memory.last ≡ m.last
+  landed_last : (doing : Doing) (depth : ℕ) (room : Bool) (l : Option Landing) → (start_landed m doing depth room l).memory.last ≡ m.last
   unfolding start_landed start_refused start_accepted
-  landed_last doing depth room NoLanding = refl
-  landed_last doing depth room (LandingAt node link run) = bool_cases room (λ q. rw q) (λ q. rw q)
+  landed_last doing depth room None = refl
+  landed_last doing depth room (Some l) = bool_cases room (λ q. rw q) (λ q. rw q)
 
-  start_last : (key : ℕ) (doing : Doing) (room : Landing → Bool) → (start_of greatest 1 c m key doing room).memory.last ≡ m.last
+  start_last : (key : ℕ) (doing : Doing) (room : Option Landing → Bool) → (start_of greatest 1 c m key doing room).memory.last ≡ m.last
   unfolding start_of start_checked start_refused has_line
   start_last key doing room =
       bool_cases (eqb (nodes_of_length greatest (length c)) 0) (λ q. rw q) (λ q. bool_cases (eqb (nodes_of_length greatest (length c)) m.nodes)

@@ -16,13 +16,13 @@ use Rattle.walk.specs.Descent.{child_index, child_for, root_position, child_posi
 use Rattle.walk.proofs.DescentLaws.{passed_le, look_inside, leaf_inside, inner_inside, fault_below, search_fault}
 use Rattle.walk.proofs.Along.{Along, along, fault_along}
 use Rattle.walk.specs.declared.Position.{Position}
-use Rattle.walk.specs.declared.Landing.TheVariants.{Leaf as LandingAt}
 use Rattle.walk.specs.declared.Search.TheVariants.{Violation as SearchViolation}
 use Rattle.laws.proofs.Cases.{bool_cases, and_true}
 use Rattle.laws.specs.Cases.{pick}
 use Rattle.call_change.specs.Updates.{landing}
 use Rattle.call_change.proofs.UpdateLaws.{leaf_on}
 use Rattle.demands.specs.Rules.{LinkedAt, root_linked, child_linked}
+use Rattle.walk.proofs.DescentLaws.{landing_at}
 
 -- what a test came to, and what was picked then
 pub picked {ℓ} : {A : Type 0} {P : Type ℓ} (b : Bool) {x y a : A} → pick b x y ≡ a → (b ≡ true → x ≡ a → P) → (b ≡ false → y ≡ a → P) → P
@@ -93,7 +93,7 @@ module _ (c : List ℕ) (n key : ℕ) where
       along c n (Stands c) key (λ q s e h. child_stands c key q s.0 (omega (arith, (inner_inside c n q.node e).one)) h) depth_limit (root_position (get_or c root_place 0)) (root_linked, inl refl)
 
   -- the leaf that a key leads to is linked where the landing says
-  pub landing_linked : (leaf spot j : ℕ) → landing c n key ≡ LandingAt leaf spot j → LinkedAt c spot leaf × (0 < leaf)
+  pub landing_linked : (leaf spot j : ℕ) → landing c n key ≡ landing_at leaf spot j → LinkedAt c spot leaf × (0 < leaf)
   unfolding landing
   landing_linked leaf spot j e =
       let f = leaf_on c (way c n key) leaf spot j e in

@@ -3,7 +3,7 @@ use mathlib.Core.Path.{◌≡◌, refl, ap, sym, subst, ◌∙◌}
 use mathlib.Core.Bool.{Bool, true, false}
 use mathlib.Core.List.{List}
 use mathlib.Core.Logic.{◌⊎◌, inl, inr}
-use mathlib.Core.Option.{Option, none, some}
+use mathlib.Core.Option.{Option as Maybe, none, some}
 use Prim.Native.Nat.{ℕ}
 use native.Mathlib.Omega.{arith}
 use native.Mathlib.Decide.{ℕ_discrete}
@@ -27,10 +27,6 @@ use Rattle.demands.proofs.CardRows.{none_some}
 use Rattle.demands.proofs.FirstRows.{NoCard, by_card}
 use Rattle.demands.proofs.WayDown.{landed, leads_is, slot_found, sized_on, slot_is}
 use Rattle.walk.specs.Descent.{slot_of}
-use Rattle.walk.specs.declared.Landing.{Landing}
-use Rattle.walk.specs.declared.Landing.TheVariants.{Refused as NoLanding, Leaf as LandingAt}
-use Rattle.walk.specs.declared.Slot.{Slot}
-use Rattle.walk.specs.declared.Slot.TheVariants.{At, Absent as NoSlot}
 use Rattle.card_free.specs.NodeSet.{count_true}
 use Rattle.laws.proofs.Cases.{bool_cases, order, impossible}
 use Rattle.laws.specs.Cases.{pick}
@@ -45,12 +41,15 @@ use Rattle.state.specs.declared.Doing.{Doing}
 use Rattle.state.specs.declared.Doing.TheVariants.{Inserting, Deleting}
 use Rattle.state.specs.declared.Phase.TheVariants.{NotBegun}
 use Rattle.call_change.specs.Updates.{landing, reason_in, empty_reason, insert_reason, split_need, room_for, start_room}
+use Rattle.std.specs.Prelude.{Option, Some, None}
+use Rattle.walk.proofs.DescentLaws.{landing_at}
+use Rattle.walk.specs.declared.Landing.{Landing}
 
 -- a state whose N does not fit the card
 pub not_sized : (greatest : ℕ) (c : List ℕ) (n : ℕ) → NoCard greatest c n → (nodes_of_length greatest (length c) ≡ 0 → ⊥) → nodes_of_length greatest (length c) ≡ n → ⊥
 not_sized greatest c n p d e = p (subst (λ x. Sized greatest (length c) x) e (nodes_sized greatest (length c) d))
 
-module _ (greatest : ℕ) (c : List ℕ) (m : Memory) (key : ℕ) (doing : Doing) (room : Landing → Bool) where
+module _ (greatest : ℕ) (c : List ℕ) (m : Memory) (key : ℕ) (doing : Doing) (room : Option Landing → Bool) where
   pub start_one : NoCard greatest c m.nodes → start_of greatest 1 c m key doing room ≡ start_refused 1 m
   unfolding start_of
   start_one p =
@@ -77,7 +76,7 @@ module _ (greatest : ℕ) (c : List ℕ) (m : Memory) (key : ℕ) (doing : Doing
   -- the rows of a start, to where the key has led to its leaf
   by_start : (rows : Rows) (works : Type 0)
       → ((leaf link j : ℕ) → leads_to c key ≡ some (leaf, j)
-      → start_of greatest 1 c m key doing room ≡ pick (room (LandingAt leaf link j)) (start_accepted m doing (start_depth 1 c m key)) (start_refused 8 m)
+      → start_of greatest 1 c m key doing room ≡ pick (room (landing_at leaf link j)) (start_accepted m doing (start_depth 1 c m key)) (start_refused 8 m)
       → ByRows rows (HandsBack (ration_table greatest) m (handed (start_of greatest 1 c m key doing room))) works)
       → ByRows (start_rows greatest (ration_table greatest) c m key rows) (HandsBack (ration_table greatest) m (handed (start_of greatest 1 c m key doing room))) works
   unfolding ByRows start_checked start_landed landed has_line
@@ -96,16 +95,16 @@ module _ (greatest : ℕ) (c : List ℕ) (m : Memory) (key : ℕ) (doing : Doing
           lands = leads_is c m.nodes key (sized_on greatest c m.nodes s)
 
           -- the card's only table
-          there : {x : Landing} → landing c m.nodes key ≡ x → landing (seen 1 c) m.nodes key ≡ x
+          there : {x : Option Landing} → landing c m.nodes key ≡ x → landing (seen 1 c) m.nodes key ≡ x
           there e = ap (λ (d : List ℕ). landing d m.nodes key) (seen_only c m.nodes (omega (arith, s.words)) f) ∙ e
 
-          at : is_idle m.doing ≡ true → (key ≡ 0 → ⊥) → (x : Landing) → landing c m.nodes key ≡ x
+          at : is_idle m.doing ≡ true → (key ≡ 0 → ⊥) → (x : Option Landing) → landing c m.nodes key ≡ x
               → ((leads_to c key ≡ none) × HandsBack (ration_table greatest) m (handed (start_of greatest 1 c m key doing room)) 9)
               ⊎ ((leads_to c key ≡ none → ⊥) × ByRows rows (HandsBack (ration_table greatest) m (handed (start_of greatest 1 c m key doing room))) works)
-          at q d NoLanding e = inl (sym lands ∙ ap landed e, rw (start_passed s f, q, ne_eqb key 0 d, there e) (refused_back 9))
-          at q d (LandingAt leaf link j) e =
-              let to : leads_to c key ≡ some (leaf, j) = sym lands ∙ ap landed e in
-              inr (λ z. none_some (leaf, j) (sym z ∙ to), next leaf link j to (start_passed s f ∙ rw (q, ne_eqb key 0 d, there e)))
+          at q d None e = inl (sym lands ∙ ap landed e, rw (start_passed s f, q, ne_eqb key 0 d, there e) (refused_back 9))
+          at q d (Some l) e =
+              let to : leads_to c key ≡ some (l.node, l.run) = sym lands ∙ ap landed e in
+              inr (λ z. none_some (l.node, l.run) (sym z ∙ to), next l.node l.link l.run to (start_passed s f ∙ rw (q, ne_eqb key 0 d, there e)))
 
           keyed : is_idle m.doing ≡ true → Dec (key ≡ 0) → ((key ≡ 0) × HandsBack (ration_table greatest) m (handed (start_of greatest 1 c m key doing room)) 6)
               ⊎ ((key ≡ 0 → ⊥) × (((leads_to c key ≡ none) × HandsBack (ration_table greatest) m (handed (start_of greatest 1 c m key doing room)) 9)
@@ -114,7 +113,7 @@ module _ (greatest : ℕ) (c : List ℕ) (m : Memory) (key : ℕ) (doing : Doing
           keyed q (no d) = inr (d, at q d (landing c m.nodes key) refl)
 
 -- what a start that works hands back
-pub started_is : (greatest : ℕ) (c : List ℕ) (m : Memory) (doing : Doing) (room : Landing → Bool) (key : ℕ) → (start_of greatest 1 c m key doing room).begun ≡ Started
+pub started_is : (greatest : ℕ) (c : List ℕ) (m : Memory) (doing : Doing) (room : Option Landing → Bool) (key : ℕ) → (start_of greatest 1 c m key doing room).begun ≡ Started
     → start_of greatest 1 c m key doing room ≡ start_accepted m doing (start_depth 1 c m key)
 unfolding start_of start_checked start_landed start_refused start_accepted has_line
 started_is greatest c m doing room key e =
@@ -130,13 +129,13 @@ started_is greatest c m doing room key e =
     never : (r : ℕ) → ◌≡◌ {A = Begun} (BegunRefused r) Started → ⊥
     never r y = impossible (cc)
 
-    at : (l : Landing) → (start_landed m doing (start_depth 1 c m key) (room l) l).begun ≡ Started
+    at : (l : Option Landing) → (start_landed m doing (start_depth 1 c m key) (room l) l).begun ≡ Started
         → start_landed m doing (start_depth 1 c m key) (room l) l ≡ start_accepted m doing (start_depth 1 c m key)
-    at NoLanding y = absurd (never 9 y)
-    at (LandingAt node link run) y = bool_cases (room (LandingAt node link run)) (λ k. rw k) (λ k. absurd (never 8 (rw k at y)))
+    at None y = absurd (never 9 y)
+    at (Some l) y = bool_cases (room (Some l)) (λ k. rw k) (λ k. absurd (never 8 (rw k at y)))
 
 -- so what is being done then
-pub started_doing : (greatest : ℕ) (c : List ℕ) (m : Memory) (doing : Doing) (room : Landing → Bool) (key : ℕ)
+pub started_doing : (greatest : ℕ) (c : List ℕ) (m : Memory) (doing : Doing) (room : Option Landing → Bool) (key : ℕ)
     → (start_of greatest 1 c m key doing room).begun ≡ Started → (start_of greatest 1 c m key doing room).memory.doing ≡ doing
 unfolding start_accepted
 started_doing greatest c m doing room key e = ap (λ (h : Handed). h.memory.doing) (started_is greatest c m doing room key e)
@@ -151,11 +150,11 @@ deletes greatest c m key =
     (λ leaf link j to e. rw e (start_begun greatest c m key (Deleting key NotBegun 0) (λ l. true)))
 
 -- where a key leads is one place
-at_leaf : Option (ℕ × ℕ) → ℕ
+at_leaf : Maybe (ℕ × ℕ) → ℕ
 at_leaf none = 0
 at_leaf (some l) = l.0
 
-at_run : Option (ℕ × ℕ) → ℕ
+at_run : Maybe (ℕ × ℕ) → ℕ
 at_run none = 0
 at_run (some l) = l.1
 
@@ -165,21 +164,21 @@ one_leaf c key leaf j leaf' j' e f = (ap at_leaf (sym e ∙ f), ap at_run (sym e
 
 -- an insert has no room exactly by row 8
 pub room_row : (c : List ℕ) (free : List Bool) (key leaf link j : ℕ) → leads_to c key ≡ some (leaf, j)
-    → (NoRoom c free key × (start_room c key (count_true free) (LandingAt leaf link j) ≡ false)) ⊎ ((NoRoom c free key → ⊥) × (start_room c key (count_true free) (LandingAt leaf link j) ≡ true))
+    → (NoRoom c free key × (start_room c key (count_true free) (landing_at leaf link j) ≡ false)) ⊎ ((NoRoom c free key → ⊥) × (start_room c key (count_true free) (landing_at leaf link j) ≡ true))
 unfolding start_room room_for insert_reason reason_in empty_reason slot_found
 room_row c free key leaf link j to = at (slot_of (node_at c leaf) key) refl (slot_of (node_at c leaf) 0) refl
   where
     same : (r : NoRoom c free key) → (r.0 ≡ leaf) × (r.1 ≡ j)
     same r = one_leaf c key r.0 r.1 leaf j r.2.leads to
 
-    at : (x : Slot) → slot_of (node_at c leaf) key ≡ x → (y : Slot) → slot_of (node_at c leaf) 0 ≡ y
-        → (NoRoom c free key × (start_room c key (count_true free) (LandingAt leaf link j) ≡ false)) ⊎ ((NoRoom c free key → ⊥) × (start_room c key (count_true free) (LandingAt leaf link j) ≡ true))
-    at (At i) e y f = inr (λ r. true_false (slot_is (node_at c leaf) key (At i) e ∙ ap (λ (x : ℕ). among key (key_words (node_at c x))) (sym (same r).0) ∙ r.2.absent), rw e)
-    at NoSlot e (At i) f = inr (λ r. true_false (slot_is (node_at c leaf) 0 (At i) f ∙ ap (λ (x : ℕ). among 0 (key_words (node_at c x))) (sym (same r).0) ∙ r.2.full), rw (e, f))
-    at NoSlot e NoSlot f =
+    at : (x : Option ℕ) → slot_of (node_at c leaf) key ≡ x → (y : Option ℕ) → slot_of (node_at c leaf) 0 ≡ y
+        → (NoRoom c free key × (start_room c key (count_true free) (landing_at leaf link j) ≡ false)) ⊎ ((NoRoom c free key → ⊥) × (start_room c key (count_true free) (landing_at leaf link j) ≡ true))
+    at (Some i) e y f = inr (λ r. true_false (slot_is (node_at c leaf) key (Some i) e ∙ ap (λ (x : ℕ). among key (key_words (node_at c x))) (sym (same r).0) ∙ r.2.absent), rw e)
+    at None e (Some i) f = inr (λ r. true_false (slot_is (node_at c leaf) 0 (Some i) f ∙ ap (λ (x : ℕ). among 0 (key_words (node_at c x))) (sym (same r).0) ∙ r.2.full), rw (e, f))
+    at None e None f =
         order (count_true free) (split_need j)
         (λ o. inl (
-          (leaf, j, record { leads = to; absent = sym (slot_is (node_at c leaf) key NoSlot e); full = sym (slot_is (node_at c leaf) 0 NoSlot f) }, o),
+          (leaf, j, record { leads = to; absent = sym (slot_is (node_at c leaf) key None e); full = sym (slot_is (node_at c leaf) 0 None f) }, o),
           rw (e, f, lt-ltb (count_true free) (split_need j) o),
         ))
         (λ o. inr (λ r. omega (arith, r.3, (same r).1), rw (e, f, le-ltb (count_true free) (split_need j) o)))
@@ -194,19 +193,19 @@ inserts greatest c m key value =
     (λ leaf link j to e. at leaf link j e (room_row c m.free key leaf link j to))
   where
     at : (leaf link j : ℕ) → start_of greatest 1 c m key (Inserting key value NotBegun) (start_room (seen 1 c) key (room_of m))
-        ≡ pick (start_room (seen 1 c) key (room_of m) (LandingAt leaf link j)) (start_accepted m (Inserting key value NotBegun) (start_depth 1 c m key)) (start_refused 8 m)
-        → (NoRoom c m.free key × (start_room c key (room_of m) (LandingAt leaf link j) ≡ false)) ⊎ ((NoRoom c m.free key → ⊥) × (start_room c key (room_of m) (LandingAt leaf link j) ≡ true))
+        ≡ pick (start_room (seen 1 c) key (room_of m) (landing_at leaf link j)) (start_accepted m (Inserting key value NotBegun) (start_depth 1 c m key)) (start_refused 8 m)
+        → (NoRoom c m.free key × (start_room c key (room_of m) (landing_at leaf link j) ≡ false)) ⊎ ((NoRoom c m.free key → ⊥) × (start_room c key (room_of m) (landing_at leaf link j) ≡ true))
         → (NoRoom c m.free key × HandsBack (ration_table greatest) m (handed (insert_of greatest 1 c m key value)) 8)
         ⊎ ((NoRoom c m.free key → ⊥) × Starts (ration_table greatest) m (handed (insert_of greatest 1 c m key value)) (inserting key value false))
     at leaf link j e (inl (r, q)) =
         inl (
           r,
-          rw (e, room_seen 1 c key (room_of m) (LandingAt leaf link j), q)
+          rw (e, room_seen 1 c key (room_of m) (landing_at leaf link j), q)
               (refused_back greatest c m key (Inserting key value NotBegun) (start_room (seen 1 c) key (room_of m)) 8),
         )
     at leaf link j e (inr (r, q)) =
         inr (
           r,
-          rw (e, room_seen 1 c key (room_of m) (LandingAt leaf link j), q)
+          rw (e, room_seen 1 c key (room_of m) (landing_at leaf link j), q)
               (start_begun greatest c m key (Inserting key value NotBegun) (start_room (seen 1 c) key (room_of m))),
         )

@@ -49,38 +49,39 @@ use Rattle.demands.proofs.Shapes.{key_of, after_shape}
 use Rattle.theory_shapes.proofs.Bare.{bare}
 use Rattle.theory_tree.specs.Violations.{few, table_violations}
 use Rattle.theory_tree.specs.WellFormed.{WellFormed}
+use Rattle.std.specs.Prelude.{Option}
+use Rattle.walk.proofs.DescentLaws.{landing_at}
 use Rattle.walk.specs.declared.Landing.{Landing}
-use Rattle.walk.specs.declared.Landing.TheVariants.{Leaf as LandingAt}
 
 -- the checks 1, 2 and 3 are passed
-pub start_checked_lem : (greatest line : ℕ) (c : List ℕ) (m : Memory) (key : ℕ) (doing : Doing) (room : Landing → Bool) → Sized greatest (length c) m.nodes
+pub start_checked_lem : (greatest line : ℕ) (c : List ℕ) (m : Memory) (key : ℕ) (doing : Doing) (room : Option Landing → Bool) → Sized greatest (length c) m.nodes
     → header_refusal c m.nodes ≡ 0 → start_of greatest line c m key doing room ≡ start_checked line c m key doing room
 unfolding start_of
 start_checked_lem greatest line c m key doing room s h =
     rw (sized_nodes greatest (length c) m.nodes s, ne_eqb m.nodes 0 (λ z. omega (arith, z, s.least)), eq-eqb m.nodes m.nodes refl, h)
 
-start_busy : (c : List ℕ) (m : Memory) (key : ℕ) (doing : Doing) (room : Landing → Bool) → is_idle m.doing ≡ false → start_checked 1 c m key doing room ≡ start_refused 7 m
+start_busy : (c : List ℕ) (m : Memory) (key : ℕ) (doing : Doing) (room : Option Landing → Bool) → is_idle m.doing ≡ false → start_checked 1 c m key doing room ≡ start_refused 7 m
 unfolding start_checked
 start_busy c m key doing room e = rw e
 
-start_zero : (c : List ℕ) (m : Memory) (key : ℕ) (doing : Doing) (room : Landing → Bool) → is_idle m.doing ≡ true → key ≡ 0 → start_checked 1 c m key doing room ≡ start_refused 6 m
+start_zero : (c : List ℕ) (m : Memory) (key : ℕ) (doing : Doing) (room : Option Landing → Bool) → is_idle m.doing ≡ true → key ≡ 0 → start_checked 1 c m key doing room ≡ start_refused 6 m
 unfolding start_checked has_line
 start_zero c m key doing room e z = rw (e, eq-eqb key 0 z)
 
-start_landed_lem : (c : List ℕ) (m : Memory) (key : ℕ) (doing : Doing) (room : Landing → Bool) (number link run : ℕ)
-    → is_idle m.doing ≡ true → (key ≡ 0 → ⊥) → landing c m.nodes key ≡ LandingAt number link run
+start_landed_lem : (c : List ℕ) (m : Memory) (key : ℕ) (doing : Doing) (room : Option Landing → Bool) (number link run : ℕ)
+    → is_idle m.doing ≡ true → (key ≡ 0 → ⊥) → landing c m.nodes key ≡ landing_at number link run
     → seen 1 c ≡ c → start_checked 1 c m key doing room ≡ pick (room (landing c m.nodes key)) (start_accepted m doing (start_depth 1 c m key)) (start_refused 8 m)
 unfolding start_checked start_landed has_line
 start_landed_lem c m key doing room number link run e z l one =
     let there : landing (seen 1 c) m.nodes key ≡ landing c m.nodes key = ap (λ (x : List ℕ). landing x m.nodes key) one in
     rw (e, ne_eqb key 0 z)
-    (ap (λ (x : Landing). start_landed m doing (start_depth 1 c m key) (room x) x) there ∙ ap (start_landed m doing (start_depth 1 c m key) (room (landing c m.nodes key))) l)
+    (ap (λ (x : Option Landing). start_landed m doing (start_depth 1 c m key) (room x) x) there ∙ ap (start_landed m doing (start_depth 1 c m key) (room (landing c m.nodes key))) l)
 
 is_idle_lem : {doing : Doing} → doing ≡ Idle → is_idle doing ≡ true
 unfolding is_idle
 is_idle_lem e = rw e
 
-landing_is : (c : List ℕ) (n key : ℕ) {x : Landing} → landing_of c (way c n key) ≡ x → landing c n key ≡ x
+landing_is : (c : List ℕ) (n key : ℕ) {x : Option Landing} → landing_of c (way c n key) ≡ x → landing c n key ≡ x
 unfolding landing
 landing_is c n key e = e
 
@@ -216,20 +217,20 @@ module _ (greatest : ℕ) (line : Line) (steps : ℕ) (w : World (ration_table g
   nodes_same = (idle_or_busy i.stage).0
 
   -- the leaf that a key leads to
-  pub lands : (key : ℕ) → lowest_key ≤ key → key < key_limit → (leaf : ℕ) × (link : ℕ) × (above : ℕ) × (landing w.card w.state.nodes key ≡ LandingAt leaf link above)
+  pub lands : (key : ℕ) → lowest_key ≤ key → key < key_limit → (leaf : ℕ) × (link : ℕ) × (above : ℕ) × (landing w.card w.state.nodes key ≡ landing_at leaf link above)
   lands key low high =
       let g = landing_found w.card line.nodes key i.table.sized.words lowest_key key_limit i.tree i.table.holds
       i.table.sound.range low high (omega arith) (table_depth_limited greatest i.table) in
       (g.number, link_place g.context, full_run g.context, rw nodes_same (landing_is w.card line.nodes key g.landed))
 
   -- the checks 1, 2 and 3 are passed
-  passed : (key : ℕ) (doing : Doing) (room : Landing → Bool) → start_of greatest 1 w.card w.state key doing room ≡ start_checked 1 w.card w.state key doing room
+  passed : (key : ℕ) (doing : Doing) (room : Option Landing → Bool) → start_of greatest 1 w.card w.state key doing room ≡ start_checked 1 w.card w.state key doing room
   passed key doing room =
       start_checked_lem greatest 1 w.card w.state key doing room (rw nodes_same i.table.sized)
       (rw nodes_same (formatted_header w.card line.nodes i.table.header))
 
   -- on an idle state nothing but the room decides
-  pub room_decides : (key : ℕ) (doing : Doing) (room : Landing → Bool) → w.state.doing ≡ Idle → lowest_key ≤ key → key < key_limit
+  pub room_decides : (key : ℕ) (doing : Doing) (room : Option Landing → Bool) → w.state.doing ≡ Idle → lowest_key ≤ key → key < key_limit
       → start_of greatest 1 w.card w.state key doing room ≡ pick (room (landing w.card w.state.nodes key))
       (start_accepted w.state doing (start_depth 1 w.card w.state key)) (start_refused 8 w.state)
   room_decides key doing room idle low high =
@@ -237,7 +238,7 @@ module _ (greatest : ℕ) (line : Line) (steps : ℕ) (w : World (ration_table g
       passed key doing room ∙ start_landed_lem w.card w.state key doing room g.0 g.1 g.2 (is_idle_lem idle) (omega arith) g.3
       (seen_only w.card line.nodes (omega (arith, i.table.sized.words)) i.table.header)
 
-  start_with : (key : ℕ) (doing : Doing) (room : Landing → Bool) (u : Update) → key < key_limit
+  start_with : (key : ℕ) (doing : Doing) (room : Option Landing → Bool) (u : Update) → key < key_limit
       → ((free : List Bool) (last : ℕ) → w.state ≡ memory line.nodes free last w.state.depth w.state.totals Idle [] []
       → table_violations i.tree ≡ 0 → size i.tree + 3 ≤ line.limit → Partition line free i.tree → bare i.tree ≡ i.goal → lowest_key ≤ key
       → room (landing w.card w.state.nodes key) ≡ true → Goal greatest i u (start_accepted w.state doing (start_depth 1 w.card w.state key)))

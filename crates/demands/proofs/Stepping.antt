@@ -2,7 +2,7 @@
 use mathlib.Core.Path.{◌≡◌, refl, ap, sym, ◌∙◌}
 use mathlib.Core.List.{List, [], ◌∷◌, ◌++◌}
 use mathlib.Core.Bool.{Bool, true, false}
-use mathlib.Core.Option.{Option, none, some, none-ne-some}
+use mathlib.Core.Option.{Option as Maybe, none, some, none-ne-some}
 use Prim.Native.Nat.{ℕ, suc, ◌+◌, ◌*◌, ◌≤◌, ◌<◌}
 use native.Mathlib.Omega.{arith}
 use lib.ListN.{length, set, get_or, length-append}
@@ -75,9 +75,8 @@ use Rattle.theory_tree.specs.Represent.{Holds}
 use Rattle.theory_tree.specs.Tree.{Tree, leaf}
 use Rattle.theory_tree.proofs.Tree.{Context, plug}
 use Rattle.theory_tree.specs.Violations.{few, table_violations}
-use Rattle.walk.specs.declared.Slot.{Slot}
-use Rattle.walk.specs.declared.Slot.TheVariants.{At, Absent as NoSlot}
-use Rattle.walk.specs.declared.Landing.TheVariants.{Leaf as LandingAt}
+use Rattle.std.specs.Prelude.{Option, Some, None}
+use Rattle.walk.proofs.DescentLaws.{landing_at}
 
 -- a table with a violation has its next change planned
 pub mends : (greatest : ℕ) (c : List ℕ) (line : Line) (key : ℕ) (t : Tree) (free : List Bool) (last : ℕ) → Table greatest c line.nodes t → Partition line free t
@@ -156,7 +155,7 @@ module _ (greatest : ℕ) (line : Line) (steps : ℕ) (c : List ℕ) (t : Tree) 
     )
 
     -- a repair that has nothing left to do gives its final answer
-    ended : {doing : Doing} {key : ℕ} {due : Answer} {u : Option Update} {h : Hand} (free : List Bool) (last depth : ℕ)
+    ended : {doing : Doing} {key : ℕ} {due : Answer} {u : Maybe Update} {h : Hand} (free : List Bool) (last depth : ℕ)
         → Job Decided doing key due u → Entered u h → table_violations t ≡ 0 → size t + 3 ≤ line.limit → Partition line free t → bare t ≡ goal
         → Goal (memory line.nodes free last depth totals doing [] []) h due
     unfolding idled outcome step_reply fed_step
@@ -166,18 +165,18 @@ module _ (greatest : ℕ) (line : Line) (steps : ℕ) (c : List ℕ) (t : Tree) 
         ∙ prepared_ready c (memory line.nodes free last depth totals doing [] []) doing due (next_repair c line.nodes key free last) (rests greatest c line.nodes key t free last b z)) refl
         (is_final j) (entered_inv en) final_answer
       where
-        is_final : {doing : Doing} {key : ℕ} {due : Answer} {u : Option Update} → Job Decided doing key due u → IsFinal due
+        is_final : {doing : Doing} {key : ℕ} {due : Answer} {u : Maybe Update} → Job Decided doing key due u → IsFinal due
         is_final job_repair = tt
         is_final (job_insert p) = tt
         is_final (job_delete p) = tt
 
-        entered_inv : {u : Option Update} {h : Hand} → Entered u h
+        entered_inv : {u : Maybe Update} {h : Hand} → Entered u h
             → Toward greatest goal due line steps (record { card = c; state = memory line.nodes free last depth totals Idle [] [] }) (fed_step final l h)
         entered_inv no_update = idle_inv due free last depth l same z r x eg
         entered_inv (updated {deciding = deciding} {count = count} e) = rw (le-ltb count deciding e) (idle_inv due free last depth l same z r x eg)
 
     -- an entered update, or opening's repair, leaves the pairs as they are
-    entered_on : {u : Option Update} {h : Hand} → Entered u h → (h' : Hand) × (fed_step goes_on l h ≡ book l h') × Entered u h'
+    entered_on : {u : Maybe Update} {h : Hand} → Entered u h → (h' : Hand) × (fed_step goes_on l h ≡ book l h') × Entered u h'
     unfolding fed_step
     entered_on no_update = (empty, refl, no_update)
     entered_on (updated {u} {deciding} {count} e) = (
@@ -187,7 +186,7 @@ module _ (greatest : ℕ) (line : Line) (steps : ℕ) (c : List ℕ) (t : Tree) 
     )
 
     -- a repair that goes on
-    repaired : {doing : Doing} {key : ℕ} {due : Answer} {u : Option Update} {h : Hand} (free : List Bool) (last depth deep : ℕ) → Job Decided
+    repaired : {doing : Doing} {key : ℕ} {due : Answer} {u : Maybe Update} {h : Hand} (free : List Bool) (last depth deep : ℕ) → Job Decided
         doing key due u → Entered u h → Mendable key line.limit t deep → Partition line free t → 73 * deep + 1 ≤ suc steps → Heads deep (bare t) goal
         → Goal (memory line.nodes free last depth totals doing [] []) h due
     repaired free last depth deep j en (settled z r) x few hd = ended free last depth j en z r x (heads_done hd (bare_table_violations t ∙ z))
@@ -225,7 +224,7 @@ module _ (greatest : ℕ) (line : Line) (steps : ℕ) (c : List ℕ) (t : Tree) 
     lands : (key : ℕ) → lowest_key ≤ key → key < key_limit → LandedAt c line.nodes key t
     lands key low high = landing_found c line.nodes key b.sized.words lowest_key key_limit t b.holds b.sound.range low high (omega arith) (table_depth_limited greatest b)
 
-    landed : (key : ℕ) (g : LandedAt c line.nodes key t) → landing c line.nodes key ≡ LandingAt g.number (link_place g.context) (full_run g.context)
+    landed : (key : ℕ) (g : LandedAt c line.nodes key t) → landing c line.nodes key ≡ landing_at g.number (link_place g.context) (full_run g.context)
     unfolding landing
     landed key g = g.landed
 
@@ -246,16 +245,16 @@ module _ (greatest : ℕ) (line : Line) (steps : ℕ) (c : List ℕ) (t : Tree) 
 
     -- an update that has a change to make comes to what its first change does; one that has none, to nothing
     goal_put : (key value : ℕ) → lookup key (pairs t) ≡ none → after_shape (put key value) (bare t) ≡ goal → settled_by depth_limit (first_shape (put key value) (bare t)) ≡ goal
-    goal_put key value e eg = sym (after_by_map (put key value) t ∙ ap (λ (f : Option ℕ). changes (put key value) f (bare t) (settled_by depth_limit (first_shape (put key value) (bare t)))) e) ∙ eg
+    goal_put key value e eg = sym (after_by_map (put key value) t ∙ ap (λ (f : Maybe ℕ). changes (put key value) f (bare t) (settled_by depth_limit (first_shape (put key value) (bare t)))) e) ∙ eg
 
     goal_held : (key value v : ℕ) → lookup key (pairs t) ≡ some v → after_shape (put key value) (bare t) ≡ goal → bare t ≡ goal
-    goal_held key value v e eg = sym (after_by_map (put key value) t ∙ ap (λ (f : Option ℕ). changes (put key value) f (bare t) (settled_by depth_limit (first_shape (put key value) (bare t)))) e) ∙ eg
+    goal_held key value v e eg = sym (after_by_map (put key value) t ∙ ap (λ (f : Maybe ℕ). changes (put key value) f (bare t) (settled_by depth_limit (first_shape (put key value) (bare t)))) e) ∙ eg
 
     goal_remove : (key v : ℕ) → lookup key (pairs t) ≡ some v → after_shape (remove key) (bare t) ≡ goal → settled_by depth_limit (first_shape (remove key) (bare t)) ≡ goal
-    goal_remove key v e eg = sym (after_by_map (remove key) t ∙ ap (λ (f : Option ℕ). changes (remove key) f (bare t) (settled_by depth_limit (first_shape (remove key) (bare t)))) e) ∙ eg
+    goal_remove key v e eg = sym (after_by_map (remove key) t ∙ ap (λ (f : Maybe ℕ). changes (remove key) f (bare t) (settled_by depth_limit (first_shape (remove key) (bare t)))) e) ∙ eg
 
     goal_absent : (key : ℕ) → lookup key (pairs t) ≡ none → after_shape (remove key) (bare t) ≡ goal → bare t ≡ goal
-    goal_absent key e eg = sym (after_by_map (remove key) t ∙ ap (λ (f : Option ℕ). changes (remove key) f (bare t) (settled_by depth_limit (first_shape (remove key) (bare t)))) e) ∙ eg
+    goal_absent key e eg = sym (after_by_map (remove key) t ∙ ap (λ (f : Maybe ℕ). changes (remove key) f (bare t) (settled_by depth_limit (first_shape (remove key) (bare t)))) e) ∙ eg
 
     -- no step of an insert was counted: its final answer enters it
     entered_at_end : (key value : ℕ) (full : Bool) → fed_step final l (taken_up (an_insert key value goes_on full)) ≡ book (entered (put key value) l) empty
@@ -265,7 +264,7 @@ module _ (greatest : ℕ) (line : Line) (steps : ℕ) (c : List ℕ) (t : Tree) 
 
     -- "Insert, key held: answers the held value, no store."
     put_answers : (free : List Bool) (last depth key value i : ℕ) → table_violations t ≡ 0 → size t + 3 ≤ line.limit → Partition line free t
-        → (g : LandedAt c line.nodes key t) → slot_of (node_at c g.number) key ≡ At i → (full : Bool) → after_shape (put key value) (bare t) ≡ goal
+        → (g : LandedAt c line.nodes key t) → slot_of (node_at c g.number) key ≡ Some i → (full : Bool) → after_shape (put key value) (bare t) ≡ goal
         → Goal (memory line.nodes free last depth totals (Inserting key value NotBegun) [] []) (taken_up (an_insert key value goes_on full)) (dictionary_answer (lookup key (pairs t)))
     unfolding idled outcome step_reply fed_step slot_answer dictionary_answer
     put_answers free last depth key value i z r x g e full eg =
@@ -300,7 +299,7 @@ module _ (greatest : ℕ) (line : Line) (steps : ℕ) (c : List ℕ) (t : Tree) 
     -- "With an empty slot: value first, then key, in the lowest empty slot."
     put_into_slot : (free : List Bool) (last depth key value i : ℕ) → table_violations t ≡ 0
         → size t + 3 ≤ line.limit → Partition line free t → lowest_key ≤ key → key < key_limit → UpdateSteps t (suc steps) → (g : LandedAt c line.nodes key t)
-        → slot_of (node_at c g.number) key ≡ NoSlot → slot_of (node_at c g.number) 0 ≡ At i → after_shape (put key value) (bare t) ≡ goal
+        → slot_of (node_at c g.number) key ≡ None → slot_of (node_at c g.number) 0 ≡ Some i → after_shape (put key value) (bare t) ≡ goal
         → Goal (memory line.nodes free last depth totals (Inserting key value NotBegun) [] []) (taken_up (told_of (put key value) c goes_on)) (dictionary_answer (lookup key (pairs t)))
     unfolding slot_answer dictionary_answer feed fed_start
     put_into_slot free last depth key value i z r x low high few g e e₀ eg =
@@ -326,7 +325,7 @@ module _ (greatest : ℕ) (line : Line) (steps : ℕ) (c : List ℕ) (t : Tree) 
         at_slot : (C : Context) (m : ℕ) (ks vs : List ℕ) (i : ℕ) → Holds c (plug C (leaf m ks vs)) → Sound (plug C (leaf m ks vs))
             → table_violations (plug C (leaf m ks vs)) ≡ 0
             → Partition line free (plug C (leaf m ks vs)) → size (plug C (leaf m ks vs)) + 3 ≤ line.limit → Leads key C → lowest_key ≤ key → key < key_limit
-            → (v : ℕ) → i < 11 → get_or ks i 0 ≡ 0 → total (has_key key) (pairs (plug C (leaf m ks vs))) ≡ 0 → first_equal ks 0 0 ≡ At i
+            → (v : ℕ) → i < 11 → get_or ks i 0 ≡ 0 → total (has_key key) (pairs (plug C (leaf m ks vs))) ≡ 0 → first_equal ks 0 0 ≡ Some i
             → First c line key (plug C (leaf m ks vs)) ((place m (12 + i), v) ∷ (place m (1 + i), key) ∷ []) free [] (put key v) (depth_of C)
         at_slot C m ks vs i h s z x r w lo hi v small e₁ a e₂ =
             record {
@@ -339,7 +338,7 @@ module _ (greatest : ℕ) (line : Line) (steps : ℕ) (c : List ℕ) (t : Tree) 
     -- "Delete: key word to 0, answers the value"
     remove_from_slot : (free : List Bool) (last depth key i : ℕ) → table_violations t ≡ 0
         → size t + 3 ≤ line.limit → Partition line free t → lowest_key ≤ key → key < key_limit → UpdateSteps t (suc steps) → (g : LandedAt c line.nodes key t)
-        → slot_of (node_at c g.number) key ≡ At i → after_shape (remove key) (bare t) ≡ goal
+        → slot_of (node_at c g.number) key ≡ Some i → after_shape (remove key) (bare t) ≡ goal
         → Goal (memory line.nodes free last depth totals (Deleting key NotBegun 0) [] []) (taken_up (told_of (remove key) c goes_on)) (dictionary_answer (lookup key (pairs t)))
     unfolding slot_answer dictionary_answer feed fed_start
     remove_from_slot free last depth key i z r x low high few g e eg =
@@ -361,7 +360,7 @@ module _ (greatest : ℕ) (line : Line) (steps : ℕ) (c : List ℕ) (t : Tree) 
         at_slot : (C : Context) (m : ℕ) (ks vs : List ℕ) → Holds c (plug C (leaf m ks vs)) → Sound (plug C (leaf m ks vs))
             → table_violations (plug C (leaf m ks vs)) ≡ 0
             → Partition line free (plug C (leaf m ks vs)) → size (plug C (leaf m ks vs)) + 3 ≤ line.limit → Leads key C → lowest_key ≤ key → key < key_limit
-            → i < 11 → get_or ks i 0 ≡ key → first_equal ks key 0 ≡ At i → First c line key (plug C (leaf m ks vs)) ((place m (1 + i), 0) ∷ []) free [] (remove key) (depth_of C)
+            → i < 11 → get_or ks i 0 ≡ key → first_equal ks key 0 ≡ Some i → First c line key (plug C (leaf m ks vs)) ((place m (1 + i), 0) ∷ []) free [] (remove key) (depth_of C)
         at_slot C m ks vs h s z x r w lo hi small e₁ e₂ =
             record {
               changing = delete_changing c line key free C m ks vs h s z x r w lo hi i small e₁;
@@ -372,7 +371,7 @@ module _ (greatest : ℕ) (line : Line) (steps : ℕ) (c : List ℕ) (t : Tree) 
 
     -- "absent and no store if not held"
     remove_answers : (free : List Bool) (last depth key : ℕ) → table_violations t ≡ 0 → size t + 3 ≤ line.limit → Partition line free t
-        → (g : LandedAt c line.nodes key t) → slot_of (node_at c g.number) key ≡ NoSlot → after_shape (remove key) (bare t) ≡ goal
+        → (g : LandedAt c line.nodes key t) → slot_of (node_at c g.number) key ≡ None → after_shape (remove key) (bare t) ≡ goal
         → Goal (memory line.nodes free last depth totals (Deleting key NotBegun 0) [] []) (taken_up (told_of (remove key) c goes_on)) (dictionary_answer (lookup key (pairs t)))
     unfolding idled outcome step_reply fed_step slot_answer dictionary_answer feed fed_start
     remove_answers free last depth key z r x g e eg =
@@ -389,7 +388,7 @@ module _ (greatest : ℕ) (line : Line) (steps : ℕ) (c : List ℕ) (t : Tree) 
     -- "Leaf full: the 12 pairs go 6 and 6 into two leaves under a tagged node"
     put_by_split : (free : List Bool) (last depth key value : ℕ) → table_violations t ≡ 0 → size t + 3 ≤ line.limit → Partition line free t → lowest_key ≤ key
         → key < key_limit → UpdateSteps t (suc steps) → (room : ℕ) → start_room c key room (landing c line.nodes key) ≡ true → size t + room ≤ line.limit → (g : LandedAt c line.nodes key t)
-        → slot_of (node_at c g.number) key ≡ NoSlot → slot_of (node_at c g.number) 0 ≡ NoSlot → after_shape (put key value) (bare t) ≡ goal
+        → slot_of (node_at c g.number) key ≡ None → slot_of (node_at c g.number) 0 ≡ None → after_shape (put key value) (bare t) ≡ goal
         → Goal (memory line.nodes free last depth totals (Inserting key value NotBegun) [] []) (taken_up (told_of (put key value) c goes_on)) (dictionary_answer (lookup key (pairs t)))
     unfolding slot_answer dictionary_answer feed fed_start
     put_by_split free last depth key value z r x low high few room enough below g e e₀ eg =
@@ -431,7 +430,7 @@ module _ (greatest : ℕ) (line : Line) (steps : ℕ) (c : List ℕ) (t : Tree) 
                 at : (C : Context) (m : ℕ) (ks vs : List ℕ) → Holds c (plug C (leaf m ks vs)) → Sound (plug C (leaf m ks vs))
                     → table_violations (plug C (leaf m ks vs)) ≡ 0
                     → Partition line free (plug C (leaf m ks vs)) → size (plug C (leaf m ks vs)) + 3 ≤ line.limit → Leads key C → length (slot_pairs ks vs) ≡ 11
-                    → total (has_key key) (pairs (plug C (leaf m ks vs))) ≡ 0 → size (plug C (leaf m ks vs)) + split_need (full_run C) ≤ line.limit → first_equal ks 0 0 ≡ NoSlot
+                    → total (has_key key) (pairs (plug C (leaf m ks vs))) ≡ 0 → size (plug C (leaf m ks vs)) + split_need (full_run C) ≤ line.limit → first_equal ks 0 0 ≡ None
                     → First c line key (plug C (leaf m ks vs))
                     (node_stores (split_nodes C (first ms) (second ms) (third ms) (with_pair key value ks vs)) ++ (link_place C, third ms) ∷ [])
                     (without_all ms free) (m ∷ []) (put key value) (depth_of C)
@@ -471,16 +470,16 @@ module _ (greatest : ℕ) (line : Line) (steps : ℕ) (c : List ℕ) (t : Tree) 
             (taken_up (told_of (put key value) c goes_on)) (dictionary_answer (lookup key (pairs t)))
         go g = at (slot_of (node_at c g.number) key) refl
           where
-            empty_at : (s : Slot) → slot_of (node_at c g.number) 0 ≡ s → slot_of (node_at c g.number) key ≡ NoSlot
+            empty_at : (s : Option ℕ) → slot_of (node_at c g.number) 0 ≡ s → slot_of (node_at c g.number) key ≡ None
                 → Goal (memory line.nodes free last depth totals (Inserting key value NotBegun) [] [])
                 (taken_up (told_of (put key value) c goes_on)) (dictionary_answer (lookup key (pairs t)))
-            empty_at (At i) e₀ e = put_into_slot free last depth key value i z r x low high few g e e₀ eg
-            empty_at NoSlot e₀ e = put_by_split free last depth key value z r x low high few room enough below g e e₀ eg
+            empty_at (Some i) e₀ e = put_into_slot free last depth key value i z r x low high few g e e₀ eg
+            empty_at None e₀ e = put_by_split free last depth key value z r x low high few room enough below g e e₀ eg
 
-            at : (s : Slot) → slot_of (node_at c g.number) key ≡ s → Goal (memory line.nodes free last depth totals (Inserting key value NotBegun) [] [])
+            at : (s : Option ℕ) → slot_of (node_at c g.number) key ≡ s → Goal (memory line.nodes free last depth totals (Inserting key value NotBegun) [] [])
                 (taken_up (told_of (put key value) c goes_on)) (dictionary_answer (lookup key (pairs t)))
-            at (At i) e = put_answers free last depth key value i z r x g e (leaf_full c key) eg
-            at NoSlot e = empty_at (slot_of (node_at c g.number) 0) refl e
+            at (Some i) e = put_answers free last depth key value i z r x g e (leaf_full c key) eg
+            at None e = empty_at (slot_of (node_at c g.number) 0) refl e
 
     remove_begins : (free : List Bool) (last depth key : ℕ) → table_violations t ≡ 0 → size t + 3 ≤ line.limit → Partition line free t
         → lowest_key ≤ key → key < key_limit → UpdateSteps t (suc steps) → after_shape (remove key) (bare t) ≡ goal
@@ -491,10 +490,10 @@ module _ (greatest : ℕ) (line : Line) (steps : ℕ) (c : List ℕ) (t : Tree) 
             → Goal (memory line.nodes free last depth totals (Deleting key NotBegun 0) [] []) (taken_up (told_of (remove key) c goes_on)) (dictionary_answer (lookup key (pairs t)))
         go g = at (slot_of (node_at c g.number) key) refl
           where
-            at : (s : Slot) → slot_of (node_at c g.number) key ≡ s → Goal (memory line.nodes free last depth totals (Deleting key NotBegun 0) [] [])
+            at : (s : Option ℕ) → slot_of (node_at c g.number) key ≡ s → Goal (memory line.nodes free last depth totals (Deleting key NotBegun 0) [] [])
                 (taken_up (told_of (remove key) c goes_on)) (dictionary_answer (lookup key (pairs t)))
-            at (At i) e = remove_from_slot free last depth key i z r x low high few g e eg
-            at NoSlot e = remove_answers free last depth key z r x g e eg
+            at (Some i) e = remove_from_slot free last depth key i z r x low high few g e eg
+            at None e = remove_answers free last depth key z r x g e eg
 
   -- a step at any stage
   pub stage_steps : (m : Memory) (h : Hand) (due : Answer) → Totals m.totals (pairs t) → Stage c line t goal (suc steps) m h due → Goal m h due

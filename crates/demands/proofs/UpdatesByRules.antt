@@ -3,7 +3,7 @@ use mathlib.Core.Path.{◌≡◌, refl, ap, sym, subst, ◌∙◌}
 use mathlib.Core.Bool.{Bool, true, false}
 use mathlib.Core.List.{List, []}
 use mathlib.Core.Logic.{◌⊎◌, inl, inr}
-use mathlib.Core.Option.{Option, none, some}
+use mathlib.Core.Option.{Option as Maybe, none, some}
 use Prim.Native.Nat.{ℕ, suc, ◌+◌, ◌<◌}
 use native.Mathlib.Omega.{arith}
 use lib.Dec.{eqb, ltb}
@@ -28,10 +28,6 @@ use Rattle.demands.proofs.Making.{Nears}
 use Rattle.demands.proofs.AnswerNumbers.{card_small}
 use Rattle.demands.proofs.PlannedUpdates.{insert_by_rule, delete_by_rule, insert_short, delete_short}
 use Rattle.walk.specs.Descent.{slot_of}
-use Rattle.walk.specs.declared.Landing.{Landing}
-use Rattle.walk.specs.declared.Landing.TheVariants.{Refused as NoLanding, Leaf as LandingAt}
-use Rattle.walk.specs.declared.Slot.{Slot}
-use Rattle.walk.specs.declared.Slot.TheVariants.{At, Absent as NoSlot}
 use Rattle.card_free.specs.NodeSet.{count_true}
 use Rattle.laws.proofs.Cases.{bool_cases, impossible}
 use Rattle.call_open.specs.Opening.{open_sound, open_checked, open_of}
@@ -58,6 +54,8 @@ use Rattle.call_change.proofs.Preparations.{next_stores}
 use Rattle.state.proofs.Tasks.{in_hand_lem, putting, taking}
 use Rattle.state.specs.declared.Task.TheVariants.{PutIn, TakeOut}
 use Rattle.call_change.specs.Updates.{Reason, landing, insert_reason, insert_change, delete_change, insert_in, delete_in, no_way, in_leaf, next_change, start_room, held, slot, full}
+use Rattle.std.specs.Prelude.{Option, Some, None}
+use Rattle.walk.specs.declared.Landing.{Landing}
 
 -- what opening hands back: no stores to come, and a repair where it says so
 abbrev OpenDoing : Handed → Type 0
@@ -73,7 +71,7 @@ sound_doing n last totals f =
     bool_cases (ltb (count_true f.free) (3 + f.run)) (λ q. rw q (none_doing 5 (omega arith)))
     (λ q. bool_cases f.violated (λ a. rw (q, a) (refl, inr (_, refl))) (λ a. rw (q, a) (refl, inl (λ e. omega (arith, ap (λ (x : Reply). x.code) e)))))
 
-checked_doing : (n last : ℕ) (totals : List ℕ) (found : Option (ℕ × Findings)) → OpenDoing (open_checked n last totals found)
+checked_doing : (n last : ℕ) (totals : List ℕ) (found : Maybe (ℕ × Findings)) → OpenDoing (open_checked n last totals found)
 unfolding open_checked
 checked_doing n last totals none = none_doing 4 (omega arith)
 checked_doing n last totals (some r) = sound_doing n last totals r.1
@@ -90,7 +88,7 @@ giving_not_balanced : (k : ℕ) (free : List Bool) (last : ℕ) (change : List �
 unfolding giving over_numbers
 giving_not_balanced k free last change e = at (take_numbers k free last) e
   where
-    at : (o : Option (List ℕ)) → over_numbers free last change o ≡ balanced → ⊥
+    at : (o : Maybe (List ℕ)) → over_numbers free last change o ≡ balanced → ⊥
     at none q = impossible (cc)
     at (some ms) q = impossible (cc)
 
@@ -125,56 +123,56 @@ module _ (greatest : ℕ) (w : World (ration_table greatest)) (b : Book) (v : Co
   insert_begun key value free last m link words (slot i) = refl
   insert_begun key value free last m link words full = refl
 
-  delete_begun : (key : ℕ) (free : List Bool) (last m : ℕ) (words : List ℕ) (s : Slot) → (a : ℕ) × ((delete_change key free last m words s).doing ≡ Deleting key InHand a)
+  delete_begun : (key : ℕ) (free : List Bool) (last m : ℕ) (words : List ℕ) (s : Option ℕ) → (a : ℕ) × ((delete_change key free last m words s).doing ≡ Deleting key InHand a)
   unfolding delete_change
-  delete_begun key free last m words (At i) = (get_or words (12 + i) 0, refl)
-  delete_begun key free last m words NoSlot = (0, refl)
+  delete_begun key free last m words (Some i) = (get_or words (12 + i) 0, refl)
+  delete_begun key free last m words None = (0, refl)
 
-  prepared_insert : (c : List ℕ) (key value : ℕ) (free : List Bool) (last : ℕ) (l : Landing) {ss : List Store} {fewer : List Bool} {now : ℕ}
+  prepared_insert : (c : List ℕ) (key value : ℕ) (free : List Bool) (last : ℕ) (l : Option Landing) {ss : List Store} {fewer : List Bool} {now : ℕ}
       {out : List ℕ} → (in_leaf c (Inserting key value NotBegun) (insert_in key value free last) l).preparation ≡ prepared ss fewer now out
       → Begun (in_leaf c (Inserting key value NotBegun) (insert_in key value free last) l).doing
   unfolding in_leaf no_way
-  prepared_insert c key value free last NoLanding e = impossible (cc)
-  prepared_insert c key value free last (LandingAt m link run) e =
-      subst Begun (sym (insert_begun key value free last m link (node_at c m) (insert_reason (node_at c m) key)))
+  prepared_insert c key value free last None e = impossible (cc)
+  prepared_insert c key value free last (Some l) e =
+      subst Begun (sym (insert_begun key value free last l.node l.link (node_at c l.node) (insert_reason (node_at c l.node) key)))
       (InHand, key, Absent, some (put key value), job_insert in_hand_lem)
 
-  prepared_delete : (c : List ℕ) (key : ℕ) (free : List Bool) (last : ℕ) (l : Landing) {ss : List Store} {fewer : List Bool} {now : ℕ}
+  prepared_delete : (c : List ℕ) (key : ℕ) (free : List Bool) (last : ℕ) (l : Option Landing) {ss : List Store} {fewer : List Bool} {now : ℕ}
       {out : List ℕ} → (in_leaf c (Deleting key NotBegun 0) (delete_in key free last) l).preparation ≡ prepared ss fewer now out
       → Begun (in_leaf c (Deleting key NotBegun 0) (delete_in key free last) l).doing
   unfolding in_leaf no_way
-  prepared_delete c key free last NoLanding e = impossible (cc)
-  prepared_delete c key free last (LandingAt m link run) e =
-      let d = delete_begun key free last m (node_at c m) (slot_of (node_at c m) key) in
+  prepared_delete c key free last None e = impossible (cc)
+  prepared_delete c key free last (Some l) e =
+      let d = delete_begun key free last l.node (node_at c l.node) (slot_of (node_at c l.node) key) in
       subst Begun (sym d.1) (InHand, key, Value d.0, some (remove key), job_delete in_hand_lem)
 
   -- where nothing is planned, the key is held by an insert and absent to a delete
-  insert_nothing : (c : List ℕ) (key value : ℕ) (free : List Bool) (last : ℕ) (l : Landing) (o : Option ℕ)
+  insert_nothing : (c : List ℕ) (key value : ℕ) (free : List Bool) (last : ℕ) (l : Option Landing) (o : Maybe ℕ)
       → (in_leaf c (Inserting key value NotBegun) (insert_in key value free last) l).preparation ≡ balanced
       → (in_leaf c (Inserting key value NotBegun) (insert_in key value free last) l).final ≡ dictionary_answer o → (a : ℕ) × (o ≡ some a)
   unfolding in_leaf no_way insert_change dictionary_answer
-  insert_nothing c key value free last NoLanding o e q = impossible (cc)
-  insert_nothing c key value free last (LandingAt m link run) o e q = at (insert_reason (node_at c m) key) e q o refl
+  insert_nothing c key value free last None o e q = impossible (cc)
+  insert_nothing c key value free last (Some l) o e q = at (insert_reason (node_at c l.node) key) e q o refl
     where
-      at : (r : Reason) → (insert_change key value free last m link (node_at c m) r).preparation ≡ balanced
-          → (insert_change key value free last m link (node_at c m) r).final ≡ dictionary_answer o → (p : Option ℕ) → o ≡ p → (a : ℕ) × (o ≡ some a)
+      at : (r : Reason) → (insert_change key value free last l.node l.link (node_at c l.node) r).preparation ≡ balanced
+          → (insert_change key value free last l.node l.link (node_at c l.node) r).final ≡ dictionary_answer o → (p : Maybe ℕ) → o ≡ p → (a : ℕ) × (o ≡ some a)
       at (held a) e q none k = let y : ◌≡◌ {A = Answer} (Value a) Absent = q ∙ ap dictionary_answer k in impossible (cc)
       at (held a) e q (some v) k = (v, k)
       at (slot i) e q p k = impossible (cc)
       at full e q p k = absurd (giving_not_balanced 3 free last _ e)
 
-  delete_nothing : (c : List ℕ) (key : ℕ) (free : List Bool) (last : ℕ) (l : Landing) (o : Option ℕ)
+  delete_nothing : (c : List ℕ) (key : ℕ) (free : List Bool) (last : ℕ) (l : Option Landing) (o : Maybe ℕ)
       → (in_leaf c (Deleting key NotBegun 0) (delete_in key free last) l).preparation ≡ balanced
       → (in_leaf c (Deleting key NotBegun 0) (delete_in key free last) l).final ≡ dictionary_answer o → o ≡ none
   unfolding in_leaf no_way delete_change dictionary_answer
-  delete_nothing c key free last NoLanding o e q = impossible (cc)
-  delete_nothing c key free last (LandingAt m link run) o e q = at (slot_of (node_at c m) key) e q o refl
+  delete_nothing c key free last None o e q = impossible (cc)
+  delete_nothing c key free last (Some l) o e q = at (slot_of (node_at c l.node) key) e q o refl
     where
-      at : (s : Slot) → (delete_change key free last m (node_at c m) s).preparation ≡ balanced
-          → (delete_change key free last m (node_at c m) s).final ≡ dictionary_answer o → (p : Option ℕ) → o ≡ p → o ≡ none
-      at (At i) e q p k = impossible (cc)
-      at NoSlot e q none k = k
-      at NoSlot e q (some v) k = let y : ◌≡◌ {A = Answer} Absent (Value v) = q ∙ ap dictionary_answer k in impossible (cc)
+      at : (s : Option ℕ) → (delete_change key free last l.node (node_at c l.node) s).preparation ≡ balanced
+          → (delete_change key free last l.node (node_at c l.node) s).final ≡ dictionary_answer o → (p : Maybe ℕ) → o ≡ p → o ≡ none
+      at (Some i) e q p k = impossible (cc)
+      at None e q none k = k
+      at None e q (some v) k = let y : ◌≡◌ {A = Answer} Absent (Value v) = q ∙ ap dictionary_answer k in impossible (cc)
 
   pub insert_by_rules : (key value : ℕ) → key < key_limit → (insert_of greatest 1 w.card w.state key value).begun ≡ Started
       → Updates (ration_table greatest) ((a : ℕ) × (lookup key b.held ≡ some a)) (InsertRule w.card key value)

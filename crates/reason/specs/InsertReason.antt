@@ -1,12 +1,10 @@
 -- Document 02, W-209: what stands in the way of a new number. "For each line on the card it prints `held V`, `slot`, or `split J free
 -- F need M`, M being j + 5."
-use Rattle.std.specs.Prelude.{Bool, List, ℕ, length, eqb}
+use Rattle.std.specs.Prelude.{Bool, List, ℕ, length, eqb, Option, Some, None}
 use Rattle.laws.specs.Cases.{pick}
 use Rattle.card.specs.Header.{nodes_of_length}
 use Rattle.card.specs.Layout.{node_at}
 use Rattle.card_free.specs.NodeSet.{count_true}
-use Rattle.walk.specs.declared.Landing.{Landing}
-use Rattle.walk.specs.declared.Landing.TheVariants.{Refused as NoLanding, Leaf as LandingAt}
 use Rattle.state.specs.Begun.{Begun}
 use Rattle.state.specs.Begun.{Idle, Started, Refused as BegunRefused}
 use Rattle.call_change.specs.Updates.{landing, insert_reason, split_need, held, slot, full, Reason as InLeaf}
@@ -17,6 +15,7 @@ use Rattle.card_dump.specs.Answer.{Answer}
 use Rattle.card_dump.specs.Answer.{Length, Refused as ReadRefused}
 use Rattle.reason.specs.declared.Reason.{Reason}
 use Rattle.reason.specs.declared.Reason.TheVariants.{Refused, NoKey, Held, Slot, Split}
+use Rattle.walk.specs.declared.Landing.{Landing}
 
 -- by what an insert finds in its leaf, below so many 11-child nodes without a break, with so many nodes free. "M being j + 5": what
 -- the split needs is part of the reason
@@ -26,9 +25,9 @@ reason_for (slot i) run free = Slot
 reason_for full run free = Split run free (split_need run)
 
 -- in the leaf that the key leads to; "9: on the way down"
-unfoldable pub reason_landed : List ℕ → List Bool → ℕ → Landing → Reason
-reason_landed card free key NoLanding = Refused 9
-reason_landed card free key (LandingAt m link run) = reason_for (insert_reason (node_at card m) key) run (count_true free)
+unfoldable pub reason_landed : List ℕ → List Bool → ℕ → Option Landing → Reason
+reason_landed card free key None = Refused 9
+reason_landed card free key (Some l) = reason_for (insert_reason (node_at card l.node) key) l.run (count_true free)
 
 -- on a card with these free nodes; a key of 0 is no key
 unfoldable pub reason_on : ℕ → List ℕ → List Bool → ℕ → Reason

@@ -16,7 +16,6 @@ ghost use Rattle.reason.specs.InsertReason.{reason_for, reason_on, reason_of, re
 use call_repair::open_repaired;
 use state::Begun;
 use state::block::{FREE, PLACES, STATE_WORDS};
-use walk::{Landing, Slot};
 
 // What is handed over for printing. A refusal comes first; a key of 0 is no key.
 #[derive(Clone, Copy)]
@@ -34,13 +33,14 @@ pub enum Reason {
 
 // Of a leaf that has not the key: an empty slot, or a split, with the 11-child nodes above the leaf, the free nodes, and those that
 // it needs: "M being j + 5".
+#[tactic(auto, unfolding(crate::specs::InsertReason::reason_for, call_change::specs::Updates::empty_reason))]
 fn reason_absent(leaf: &[u32], free: &[u32], run: usize) -> Reason
     requires { (length leaf.now ≡ 24) × (length free.now ≡ word_count) × (run ≤ depth_limit) }
     ensures { result ≡ reason_for (empty_reason (slot_of leaf.now 0)) run (count_true (nodes_of free.now)) }
 {
     match walk::find_slot(leaf, 0) {
-        Slot::At(_) => Reason::Slot,
-        Slot::Absent => Reason::Split {
+        Some(_) => Reason::Slot,
+        None => Reason::Split {
             run,
             free: card_free::count(free),
             need: run + call_change::SPLIT_NEED,
@@ -49,13 +49,14 @@ fn reason_absent(leaf: &[u32], free: &[u32], run: usize) -> Reason
 }
 
 // In the leaf that the key leads to.
+#[tactic(auto, using(walk::proofs::DescentLaws::slot_below), unfolding(crate::specs::InsertReason::reason_for, call_change::specs::Updates::reason_in, call_change::specs::Updates::insert_reason))]
 fn reason_in(leaf: &[u32], key: u32, free: &[u32], run: usize) -> Reason
     requires { (length leaf.now ≡ 24) × (length free.now ≡ word_count) × (run ≤ depth_limit) }
     ensures { result ≡ reason_for (insert_reason leaf.now key) run (count_true (nodes_of free.now)) }
 {
     match walk::find_slot(leaf, key) {
-        Slot::At(i) => Reason::Held(leaf[card::VALUES + i]),
-        Slot::Absent => reason_absent(leaf, free, run),
+        Some(i) => Reason::Held(leaf[card::VALUES + i]),
+        None => reason_absent(leaf, free, run),
     }
 }
 
@@ -71,12 +72,10 @@ fn reason_on(card: &[u32], free: &[u32], key: u32, greatest: usize) -> Reason
     if key == 0 {
         return Reason::NoKey;
     }
-    match walk::find_landing(card, n, key, card[card::ROOT_PLACE] as usize) {
-        Landing::Refused => Reason::Refused(9),
-        Landing::Leaf { node, link: _, run } => {
-            reason_in(card::node_at(card, node), key, free, run)
-        }
-    }
+    let Some(leaf) = walk::find_landing(card, n, key, card[card::ROOT_PLACE] as usize) else {
+        return Reason::Refused(9);
+    };
+    reason_in(card::node_at(card, leaf.node), key, free, leaf.run)
 }
 
 // On a card that was opened and repaired, with the state that it was left with.

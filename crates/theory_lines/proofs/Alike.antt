@@ -3,7 +3,7 @@
 use mathlib.Core.Path.{◌≡◌, refl, ap, ap₂, sym, subst, ◌∙◌}
 use mathlib.Core.List.{List, [], ◌∷◌}
 use mathlib.Core.Bool.{Bool, true, false, not}
-use mathlib.Core.Option.{Option, none, some}
+use mathlib.Core.Option.{Option as Maybe, none, some}
 use mathlib.Core.Logic.{◌⊎◌, inl, inr}
 use Prim.Native.Nat.{ℕ, suc, ◌+◌, ◌≤◌, ◌<◌}
 use native.Mathlib.Omega.{arith}
@@ -14,11 +14,8 @@ use Rattle.call_start.proofs.StartLaws.{room_seen}
 use Rattle.theory_change.proofs.Line.{Line, Partition, only, size, count_only}
 use Rattle.card.specs.Layout.{lowest_key, key_limit, node_at}
 use Rattle.walk.specs.Descent.{slot_of, first_equal}
-use Rattle.walk.specs.declared.Slot.{Slot}
-use Rattle.walk.specs.declared.Slot.TheVariants.{At, Absent as NoSlot}
 use Rattle.theory_walk.proofs.Find.{slot_answer}
 use Rattle.theory_walk.proofs.Landing.{LandedAt, landing_found}
-use Rattle.walk.specs.declared.Landing.TheVariants.{Leaf as LandingAt}
 use Rattle.card_free.specs.NodeSet.{count_true}
 use Rattle.laws.specs.Cases.{pick}
 use Rattle.laws.proofs.Cases.{order, bool_cases, impossible}
@@ -53,6 +50,8 @@ use Rattle.theory_tree.proofs.Represent.{link_place}
 use Rattle.theory_tree.specs.Tree.{Tree, node_total}
 use Rattle.theory_tree.specs.Violations.{table_violations}
 use Rattle.call_change.specs.Updates.{landing, insert_reason, reason_in, empty_reason, split_need, room_for, start_room}
+use Rattle.std.specs.Prelude.{Option, Some, None}
+use Rattle.walk.proofs.DescentLaws.{landing_at}
 
 -- what a whole call comes to
 pub data Outcome : Type 0 where
@@ -85,7 +84,7 @@ pub data Runs (greatest : ℕ) : List Update → World (ration_table greatest) �
 
 -- ---- the function: what is refused, answered and left, by the tree without numbers
 
-abbrev pub is_absent : Option ℕ → Bool
+abbrev pub is_absent : Maybe ℕ → Bool
 is_absent none = true
 is_absent (some v) = false
 
@@ -149,7 +148,7 @@ module _ (greatest : ℕ) (line : Line) (steps : ℕ) (w : World (ration_table g
   abbrev shape : Tree
   shape = bare i.tree
 
-  landed : (key : ℕ) (g : LandedAt w.card line.nodes key i.tree) → landing w.card w.state.nodes key ≡ LandingAt g.number (link_place g.context) (full_run g.context)
+  landed : (key : ℕ) (g : LandedAt w.card line.nodes key i.tree) → landing w.card w.state.nodes key ≡ landing_at g.number (link_place g.context) (full_run g.context)
   unfolding landing
   landed key g = rw (nodes_same greatest line steps w b i) g.landed
 
@@ -168,33 +167,33 @@ module _ (greatest : ℕ) (line : Line) (steps : ℕ) (w : World (ration_table g
           room_at w.card w.state.nodes key room g.number (link_place g.context) (full_run g.context) (landed key g)
           ∙ by_key (slot_of (node_at w.card g.number) key) refl
         where
-          found : (s : Slot) → slot_of (node_at w.card g.number) key ≡ s → lookup key (pairs shape) ≡ slot_answer (node_at w.card g.number) s
+          found : (s : Option ℕ) → slot_of (node_at w.card g.number) key ≡ s → lookup key (pairs shape) ≡ slot_answer (node_at w.card g.number) s
           found s e = ap (lookup key) (bare_pairs i.tree) ∙ sym g.answers ∙ ap (slot_answer (node_at w.card g.number)) e
 
           row : (k : ℕ) → first_equal g.keys k 0 ≡ slot_of (node_at w.card g.number) k
           row k = row_slot key k g
 
-          need : (s : Slot) → slot_of (node_at w.card g.number) 0 ≡ s → need_of key 0 shape ≡ leaf_need s (full_run g.context)
+          need : (s : Option ℕ) → slot_of (node_at w.card g.number) 0 ≡ s → need_of key 0 shape ≡ leaf_need s (full_run g.context)
           need s e =
               ap (λ (x : Tree). need_of key 0 (bare x)) (sym g.is_tree)
               ∙ need_leaf key g.context g.number g.keys g.values (leads_reach key g.context g.leads)
-              ∙ ap (λ (x : Slot). leaf_need x (full_run g.context)) (row 0 ∙ e)
+              ∙ ap (λ (x : Option ℕ). leaf_need x (full_run g.context)) (row 0 ∙ e)
 
-          by_empty : (s : Slot) → slot_of (node_at w.card g.number) 0 ≡ s → slot_of (node_at w.card g.number) key ≡ NoSlot
+          by_empty : (s : Option ℕ) → slot_of (node_at w.card g.number) 0 ≡ s → slot_of (node_at w.card g.number) key ≡ None
               → room_for room (full_run g.context) (insert_reason (node_at w.card g.number) key)
               ≡ not (both (is_absent (lookup key (pairs shape))) (ltb line.limit (node_total (λ m. 1) shape + need_of key 0 shape)))
-          by_empty (At j) e₀ e = rw (e, e₀, found NoSlot e, need (At j) e₀, le-ltb line.limit (node_total (λ m. 1) shape + 0) (omega (arith, exact)))
-          by_empty NoSlot e₀ e =
-              rw (e, e₀, found NoSlot e, need NoSlot e₀)
+          by_empty (Some j) e₀ e = rw (e, e₀, found None e, need (Some j) e₀, le-ltb line.limit (node_total (λ m. 1) shape + 0) (omega (arith, exact)))
+          by_empty None e₀ e =
+              rw (e, e₀, found None e, need None e₀)
               (ap not (order (room) (split_need (full_run g.context))
               (λ o. lt-ltb (room) (split_need (full_run g.context)) o ∙ sym (lt-ltb line.limit (node_total (λ m. 1) shape + (split_need (full_run g.context))) (omega arith)))
               (λ o. le-ltb (room) (split_need (full_run g.context)) o ∙ sym (le-ltb line.limit (node_total (λ m. 1) shape + (split_need (full_run g.context))) (omega arith)))))
 
-          by_key : (s : Slot) → slot_of (node_at w.card g.number) key ≡ s
+          by_key : (s : Option ℕ) → slot_of (node_at w.card g.number) key ≡ s
               → room_for room (full_run g.context) (insert_reason (node_at w.card g.number) key)
               ≡ not (both (is_absent (lookup key (pairs shape))) (ltb line.limit (node_total (λ m. 1) shape + need_of key 0 shape)))
-          by_key (At j) e = rw (e, found (At j) e)
-          by_key NoSlot e = by_empty (slot_of (node_at w.card g.number) 0) refl e
+          by_key (Some j) e = rw (e, found (Some j) e)
+          by_key None e = by_empty (slot_of (node_at w.card g.number) 0) refl e
 
 module _ (greatest : ℕ) (n steps : ℕ) (w : World (ration_table greatest)) (b : Book) (i : Inv greatest (only n) steps w b) (idle : w.state.doing ≡ Idle) where
   abbrev t : Tree

@@ -33,32 +33,32 @@ pub node_at-requires : goal.node_at-requires
 unfolding landing way
 node_at-requires c =
     let whole = sized _ c.args.card.now c.nodes_of-n.result c.nodes_of-n.ensures c.if-n-eq0.false in
-    let leaf = landed _ c.args.card.now c.nodes_of-n.result c.args.key c.in-Leaf.node c.in-Leaf.link c.in-Leaf.run' whole (sym c.in-Leaf.ensures) in
+    let leaf = landed _ c.args.card.now c.nodes_of-n.result c.args.key c.in-Some.leaf.node c.in-Some.leaf.link c.in-Some.leaf.run whole (sym c.in-Some.ensures) in
     (leaf.inside.one, omega (arith, leaf.inside.most, whole.most), omega (arith, leaf.inside.most, whole.words))
 
 pub reason_in-requires : goal.reason_in-requires
 unfolding landing way
 reason_in-requires c =
     let whole = sized _ c.args.card.now c.nodes_of-n.result c.nodes_of-n.ensures c.if-n-eq0.false in
-    let leaf = landed _ c.args.card.now c.nodes_of-n.result c.args.key c.in-Leaf.node c.in-Leaf.link c.in-Leaf.run' whole (sym c.in-Leaf.ensures) in (
+    let leaf = landed _ c.args.card.now c.nodes_of-n.result c.args.key c.in-Some.leaf.node c.in-Some.leaf.link c.in-Some.leaf.run whole (sym c.in-Some.ensures) in (
       ap length c.node_at.ensures
-          ∙ length_node c.args.card.now c.in-Leaf.node leaf.inside.one (omega (arith, leaf.inside.most, whole.words)),
+          ∙ length_node c.args.card.now c.in-Some.leaf.node leaf.inside.one (omega (arith, leaf.inside.most, whole.words)),
       c.requires,
-      landed_run c.args.card.now c.nodes_of-n.result c.args.key c.in-Leaf.node c.in-Leaf.link c.in-Leaf.run' (sym c.in-Leaf.ensures),
+      landed_run c.args.card.now c.nodes_of-n.result c.args.key c.in-Some.leaf.node c.in-Some.leaf.link c.in-Some.leaf.run (sym c.in-Some.ensures),
     )
 
-pub returns-in-Refused : goal.returns-in-Refused
+pub returns-in_default : goal.returns-in_default
 unfolding landing way reason_landed
-returns-in-Refused c =
+returns-in_default c =
     sym
     (on_key _ c.args.card.now (nodes_of c.args.free.now) c.args.key c.nodes_of-n.result c.nodes_of-n.ensures c.if-n-eq0.false c.if-key-eq0.false
-    ∙ ap (reason_landed c.args.card.now (nodes_of c.args.free.now) c.args.key) (sym c.in-Refused.ensures))
+    ∙ ap (reason_landed c.args.card.now (nodes_of c.args.free.now) c.args.key) (sym c.in_default.ensures))
 
-pub returns-in-Leaf : goal.returns-in-Leaf
+pub returns : goal.returns
 unfolding landing way reason_landed
-returns-in-Leaf c =
+returns c =
     c.reason_in.ensures
-    ∙ ap (λ (x : List ℕ). reason_for (insert_reason x c.args.key) c.in-Leaf.run' (count_true (nodes_of c.args.free.now))) c.node_at.ensures
+    ∙ ap (λ (x : List ℕ). reason_for (insert_reason x c.args.key) c.in-Some.leaf.run (count_true (nodes_of c.args.free.now))) c.node_at.ensures
     ∙ sym
     (on_key _ c.args.card.now (nodes_of c.args.free.now) c.args.key c.nodes_of-n.result c.nodes_of-n.ensures c.if-n-eq0.false c.if-key-eq0.false
-    ∙ ap (reason_landed c.args.card.now (nodes_of c.args.free.now) c.args.key) (sym c.in-Leaf.ensures))
+    ∙ ap (reason_landed c.args.card.now (nodes_of c.args.free.now) c.args.key) (sym c.in-Some.ensures))
