@@ -1,7 +1,7 @@
 -- Laws of a node's part of the card.
 use mathlib.Core.Path.{◌≡◌, refl, sym, ap, ap₂, ◌∙◌}
-use mathlib.Core.List.{List, [], ◌∷◌, ◌++◌}
-use mathlib.Core.Bool.{Bool, true, false, cond, not}
+use mathlib.Core.List.{List, [], ◌∷◌, ◌++◌, map}
+use mathlib.Core.Bool.{Bool, true, false, cond}
 use Prim.Native.Nat.{ℕ, zero, suc, ◌+◌, ◌-◌, ◌*◌, ◌≤◌, ◌<◌}
 use native.Mathlib.Omega.{arith}
 use native.Mathlib.Numerals.{add-one}
@@ -11,8 +11,9 @@ use lib.Dec.{eqb, ltb}
 use borrow.Author.Tests.{eq-eqb, ne_eqb}
 use Rattle.std.specs.Prelude.{Some, None}
 use Rattle.std.specs.Option.{unwrap_or}
-use Rattle.std.specs.List.{filter, position, position_or_len}
+use Rattle.std.specs.List.{sum, position, position_or_len}
 use Rattle.std.proofs.lemmas.Bool.Decides.{nat_tests}
+use Rattle.std.proofs.lemmas.List.Sums.{sum_by-cons}
 use Rattle.laws.specs.Cases.{pick}
 use Rattle.laws.specs.Lists.{before_zero}
 use Rattle.laws.proofs.Lists.{before_zero_length, before_zero_take}
@@ -82,13 +83,6 @@ before_zero_place xs = at_place (position_or_len (λ x. eqb x 0) xs) (place_is x
         → unwrap_or (cond (ltb n (length xs)) (Some n) None) (length xs) ≡ length (before_zero xs)
     at_place n e h = grind (arith, nat_tests)
 
--- a key word is that of a pair if it is not 0
-pub slots_counted : (ks vs : List ℕ) → length ks ≡ length vs → length (filter (λ k. not (eqb k 0)) ks) ≡ length (slot_pairs ks vs)
-slots_counted [] vs e = refl
-slots_counted (k ∷ ks) [] e = absurd (omega arith)
-slots_counted (zero ∷ ks) (v ∷ vs) e = slots_counted ks vs (omega arith)
-slots_counted (suc k ∷ ks) (v ∷ vs) e = rw (ne_eqb (suc k) 0 (λ e. omega arith)) (ap suc (slots_counted ks vs (omega arith)))
-
 -- the pairs of a leaf, counted slot by slot
 pub is_key_none : (k : ℕ) → k ≡ 0 → is_key k ≡ 0
 unfolding is_key
@@ -109,6 +103,13 @@ slot_length : (k v : ℕ) → length (slot_pairs (k ∷ []) (v ∷ [])) ≡ is_k
 unfolding is_key
 slot_length zero v = refl
 slot_length (suc k) v = refl
+
+pub slots_counted : (ks vs : List ℕ) → length ks ≡ length vs → sum (map is_key ks) ≡ length (slot_pairs ks vs)
+unfolding is_key
+slots_counted [] vs e = refl
+slots_counted (k ∷ ks) [] e = absurd (omega arith)
+slots_counted (zero ∷ ks) (v ∷ vs) e = slots_counted ks vs (omega arith)
+slots_counted (suc k ∷ ks) (v ∷ vs) e = omega (arith, sum_by-cons (λ x. x) 1 (map is_key ks), slots_counted ks vs (omega arith))
 
 pub slot_pairs_le : (ks vs : List ℕ) → length (slot_pairs ks vs) ≤ length ks
 slot_pairs_le [] vs = omega arith

