@@ -1,14 +1,19 @@
 -- Laws of a node's part of the card.
 use mathlib.Core.Path.{◌≡◌, refl, sym, ap, ap₂, ◌∙◌}
-use mathlib.Core.List.{List, [], ◌∷◌, ◌++◌}
-use mathlib.Core.Bool.{Bool, true, false}
+use mathlib.Core.List.{List, [], ◌∷◌, ◌++◌, map}
+use mathlib.Core.Bool.{Bool, true, false, cond}
 use Prim.Native.Nat.{ℕ, zero, suc, ◌+◌, ◌-◌, ◌*◌, ◌≤◌, ◌<◌}
 use native.Mathlib.Omega.{arith}
 use native.Mathlib.Numerals.{add-one}
 use lib.ListN.{length, get_or, take, drop, length-append, length-take, length-drop, drop_of_length-le}
 use lib.Seq.{take-take, get_or-take, get_or-drop, length-take-le, drop-cons}
-use lib.Dec.{eqb}
+use lib.Dec.{eqb, ltb}
 use borrow.Author.Tests.{eq-eqb, ne_eqb}
+use Rattle.std.specs.Prelude.{Some, None}
+use Rattle.std.specs.Option.{unwrap_or}
+use Rattle.std.specs.List.{sum, position, position_or_len}
+use Rattle.std.proofs.lemmas.Bool.Decides.{nat_tests}
+use Rattle.std.proofs.lemmas.List.Sums.{sum_by-cons}
 use Rattle.laws.specs.Cases.{pick}
 use Rattle.laws.specs.Lists.{before_zero}
 use Rattle.laws.proofs.Lists.{before_zero_length, before_zero_take}
@@ -65,27 +70,20 @@ pub length_routing : (node : List ℕ) → length node ≡ 24 → length (routin
 unfolding routing_keys
 length_routing node len = length-take-le (length (children node) - 1) (key_words node) (omega (arith, children_le node, length_key_words node len))
 
--- where no word before c is 0 and the one at c is, there are c
-until : (xs : List ℕ) (c : ℕ) → c ≤ length xs → ((k : ℕ) → k < c → get_or xs k 0 ≡ 0 → ⊥) → (c < length xs → get_or xs c 0 ≡ 0) → length (before_zero xs) ≡ c
-until [] c h f z = omega arith
-until (zero ∷ xs) zero h f z = refl
-until (suc x ∷ xs) zero h f z = let e : suc x ≡ 0 = z (omega arith) in absurd (omega arith)
-until (zero ∷ xs) (suc c) h f z = absurd (f zero (omega arith) refl)
-until (suc x ∷ xs) (suc c) h f z = ap suc (until xs c (omega arith) (λ k l. f (suc k) (omega arith)) (λ l. z (omega arith)))
+-- the place of the first 0, or the length where none is
+pub before_zero_place : (xs : List ℕ) → unwrap_or (position (λ x. eqb x 0) xs) (length xs) ≡ length (before_zero xs)
+before_zero_place xs = at_place (position_or_len (λ x. eqb x 0) xs) (place_is xs) (before_zero_length xs)
+  where
+    place_is : (xs : List ℕ) → position_or_len (λ x. eqb x 0) xs ≡ length (before_zero xs)
+    place_is [] = refl
+    place_is (zero ∷ xs) = refl
+    place_is (suc x ∷ xs) = rw (ne_eqb (suc x) 0 (λ e. omega arith)) (omega (arith, place_is xs))
 
-pub children_count : (node : List ℕ) (c : ℕ) → length node ≡ 24 → c ≤ 11 → ((k : ℕ) → k < c → get_or node (12 + k) 0 ≡ 0 → ⊥) → (c < 11 → get_or node (12 + c) 0 ≡ 0) → length (children node) ≡ c
-unfolding children
-children_count node c n h f z =
-    until (value_words node) c (omega (arith, length_value_words node n))
-    (λ k l e. f k l (sym (get_value_word node k (omega arith)) ∙ e))
-    (λ l. get_value_word node c (omega (arith, length_value_words node n)) ∙ z (omega (arith, length_value_words node n)))
+    at_place : (n : ℕ) → n ≡ length (before_zero xs) → length (before_zero xs) ≤ length xs
+        → unwrap_or (cond (ltb n (length xs)) (Some n) None) (length xs) ≡ length (before_zero xs)
+    at_place n e h = grind (arith, nat_tests)
 
 -- the pairs of a leaf, counted slot by slot
-pub is_key_le : (k : ℕ) → is_key k ≤ 1
-unfolding is_key
-is_key_le zero = omega arith
-is_key_le (suc k) = omega arith
-
 pub is_key_none : (k : ℕ) → k ≡ 0 → is_key k ≡ 0
 unfolding is_key
 is_key_none zero e = refl
@@ -105,6 +103,13 @@ slot_length : (k v : ℕ) → length (slot_pairs (k ∷ []) (v ∷ [])) ≡ is_k
 unfolding is_key
 slot_length zero v = refl
 slot_length (suc k) v = refl
+
+pub slots_counted : (ks vs : List ℕ) → length ks ≡ length vs → sum (map is_key ks) ≡ length (slot_pairs ks vs)
+unfolding is_key
+slots_counted [] vs e = refl
+slots_counted (k ∷ ks) [] e = absurd (omega arith)
+slots_counted (zero ∷ ks) (v ∷ vs) e = slots_counted ks vs (omega arith)
+slots_counted (suc k ∷ ks) (v ∷ vs) e = omega (arith, sum_by-cons (λ x. x) 1 (map is_key ks), slots_counted ks vs (omega arith))
 
 pub slot_pairs_le : (ks vs : List ℕ) → length (slot_pairs ks vs) ≤ length ks
 slot_pairs_le [] vs = omega arith

@@ -1,5 +1,5 @@
 -- Laws of the check of a table: one for each branch of the code.
-use mathlib.Core.Path.{◌≡◌, refl, ap, ap₂, sym, ◌∙◌}
+use mathlib.Core.Path.{◌≡◌, refl, ap, ap₂, sym, subst, ◌∙◌}
 use mathlib.Core.List.{List, [], ◌∷◌}
 use mathlib.Core.Bool.{Bool, true, false, ◌&&◌, ◌||◌, not}
 use mathlib.Core.Option.{Option, none, some}
@@ -7,21 +7,22 @@ use Prim.Native.Nat.{ℕ, zero, suc, ◌+◌, ◌-◌, ◌≤◌, ◌<◌}
 use native.Mathlib.Omega.{arith}
 use native.Mathlib.Numerals.{add-one}
 use lib.ListN.{length, length-set, set, get_or, take, drop, drop_of_length-le}
-use lib.Seq.{take-nil, drop-cons, get_or-take, get_or-drop, slice, slice-cons, slice_empty, drop-drop}
+use lib.Seq.{take-nil, drop-cons, get_or-take, get_or-drop, drop-drop}
 use lib.Dec.{ltb, leb, eqb}
 use borrow.Author.Tests.{ltb-false, lt-ltb, le-ltb, eqb-false, ne_eqb, eq-eqb}
+use Rattle.std.specs.Prelude.{Some}
+use Rattle.std.specs.List.{list_any}
 use Rattle.card.specs.Layout.{node_at, kind_of, key_words, value_words, children, routing_keys, leaf_pairs, run_below}
 use Rattle.card.proofs.NodeLaws.{length_key_words, get_key_word, children_words, routing_words, length_routing}
 use Rattle.laws.proofs.Cases.{order, guard_some, impossible}
 use Rattle.laws.specs.Cases.{pick, guard, bind}
 use Rattle.laws.specs.Lists.{all_zero, zero_after}
-use Rattle.card_check.specs.Check.{Least, Findings, findings_of, checked_of, height_of, member, leaf_sound, unused_zero, Look, look_of}
+use Rattle.card_check.specs.Check.{Least, Findings, findings_of, member, leaf_sound, unused_zero, Look, look_of}
 use Rattle.card_check.specs.Check.{noted, enter_leaf, inner_sound, enter_inner, enter_kind, enter_node, ChildCheck, children_check, raised}
 use Rattle.card_check.specs.Check.{on_look, node_check, bad, leaf, inner, slot_sound, range_end}
-use Rattle.card_check.specs.declared.Checked.{Checked}
-use Rattle.card_check.specs.declared.Checked.TheVariants.{Unsound, Sound}
+use Rattle.card_check.specs.Counting.{EntryCounts}
 use Rattle.card_check.specs.declared.Entry.{Entry}
-use Rattle.card_check.specs.declared.Entry.TheVariants.{Refused, Leaf, Inner}
+use Rattle.card_check.specs.declared.Entry.TheVariants.{Leaf, Inner}
 
 -- ---- a leaf, slot by slot
 
@@ -29,11 +30,28 @@ use Rattle.card_check.specs.declared.Entry.TheVariants.{Refused, Leaf, Inner}
 pub key_drop : (node : List ℕ) → length node ≡ 24 → (i : ℕ) → i < 11 → drop i (key_words node) ≡ get_or node (1 + i) 0 ∷ drop (i + 1) (key_words node)
 key_drop node len i h = rw (add-one i, ← get_key_word node i h) (drop-cons (key_words node) i 0 (omega (arith, length_key_words node len)))
 
-module _ (node : List ℕ) (len : length node ≡ 24) (k j : ℕ) where
-  pub member_here : j < 11 → get_or node (1 + j) 0 ≡ k → member k (drop j (key_words node)) ≡ true
-  unfolding member
-  member_here h e = rw (key_drop node len j h, eq-eqb (get_or node (1 + j) 0) k e)
+take_drop : (d t : ℕ) (l : List ℕ) → take t (drop d l) ≡ drop d (take (d + t) l)
+take_drop zero t l = ap (λ (x : ℕ). take x l) (let z : t ≡ 0 + t = omega arith in z)
+take_drop (suc d) t [] = take-nil t ∙ ap (drop (suc d)) (sym (take-nil (suc d + t)))
+take_drop (suc d) t (x ∷ l) = take_drop d t l ∙ ap (λ (n : ℕ). drop (suc d) (take n (x ∷ l))) (let z : suc (d + t) ≡ suc d + t = omega arith in z)
 
+-- the keys after slot i, as the code cuts them out
+pub later_keys : (node : List ℕ) (i : ℕ) → i < 11 → take (12 - (1 + i + 1)) (drop (1 + i + 1) node) ≡ drop (i + 1) (key_words node)
+unfolding key_words
+later_keys node i h =
+    let e : 1 + i + 1 ≡ 1 + (i + 1) = omega arith in
+    let f : (i + 1) + (12 - (1 + i + 1)) ≡ 11 = omega arith in
+    ap (take (12 - (1 + i + 1))) (ap (λ (x : ℕ). drop x node) e ∙ sym (drop-drop (i + 1) 1 node))
+    ∙ take_drop (i + 1) (12 - (1 + i + 1)) (drop 1 node)
+    ∙ ap (λ (x : ℕ). drop (i + 1) (take x (drop 1 node))) f
+
+-- the words of a list that are this key
+pub member_any : (k : ℕ) (ks : List ℕ) → list_any (λ x. eqb x k) ks ≡ member k ks
+unfolding member
+member_any k [] = refl
+member_any k (x ∷ ks) = ap (λ (b : Bool). eqb x k || b) (member_any k ks)
+
+module _ (node : List ℕ) (len : length node ≡ 24) (k j : ℕ) where
   pub member_next : j < 11 → (get_or node (1 + j) 0 ≡ k → ⊥) → member k (drop j (key_words node)) ≡ member k (drop (j + 1) (key_words node))
   unfolding member
   member_next h e = rw (key_drop node len j h, ne_eqb (get_or node (1 + j) 0) k e)
@@ -112,39 +130,32 @@ module _ (node : List ℕ) (len : length node ≡ 24) where
 
 -- ---- words that must be 0
 
-module _ (node : List ℕ) (i to : ℕ) where
-  pub zero_stop : i < to → to ≤ length node → (get_or node i 0 ≡ 0 → ⊥) → all_zero (slice i to node) ≡ false
-  zero_stop h l e = ap all_zero (slice-cons i to node 0 h l) ∙ rw (ne_eqb (get_or node i 0) 0 e)
-
-  pub zero_next : i < to → to ≤ length node → get_or node i 0 ≡ 0 → all_zero (slice i to node) ≡ all_zero (slice (i + 1) to node)
-  zero_next h l e = ap all_zero (slice-cons i to node 0 h l) ∙ rw (eq-eqb (get_or node i 0) 0 e, add-one i)
-
-  pub zero_end : i ≡ to → all_zero (slice i to node) ≡ true
-  zero_end e = rw (e, slice_empty to node)
-
 zero_after_drop : (k : ℕ) (l : List ℕ) → zero_after k l ≡ all_zero (drop k l)
 zero_after_drop zero l = refl
 zero_after_drop (suc k) [] = refl
 zero_after_drop (suc k) (x ∷ l) = zero_after_drop k l
 
-take_drop : (d t : ℕ) (l : List ℕ) → take t (drop d l) ≡ drop d (take (d + t) l)
-take_drop zero t l = ap (λ (x : ℕ). take x l) (let z : t ≡ 0 + t = omega arith in z)
-take_drop (suc d) t [] = take-nil t ∙ ap (drop (suc d)) (sym (take-nil (suc d + t)))
-take_drop (suc d) t (x ∷ l) = take_drop d t l ∙ ap (λ (n : ℕ). drop (suc d) (take n (x ∷ l))) (let z : suc (d + t) ≡ suc d + t = omega arith in z)
-
 -- words d + k to d + t of a node, as the words from k on of the t from d on
-part_zero : (node : List ℕ) (d t k : ℕ) → zero_after k (take t (drop d node)) ≡ all_zero (slice (d + k) (d + t) node)
-part_zero node d t k = zero_after_drop k _ ∙ ap (λ (l : List ℕ). all_zero (drop k l)) (take_drop d t node) ∙ ap all_zero (drop-drop k d (take (d + t) node))
+part_zero : (node : List ℕ) (d t k : ℕ) → k ≤ t → zero_after k (take t (drop d node)) ≡ all_zero (take (t - k) (drop (d + k) node))
+part_zero node d t k h =
+    let e : k + (t - k) ≡ t = omega arith in
+    zero_after_drop k (take t (drop d node))
+    ∙ ap all_zero (ap (λ (x : ℕ). drop k (take x (drop d node))) (sym e) ∙ sym (take_drop k (t - k) (drop d node)) ∙ ap (take (t - k)) (drop-drop k d node))
 
-module _ (node : List ℕ) (c : ℕ) (some_child : 1 ≤ c) where
-  unused_parts : unused_zero node c ≡ (all_zero (slice c 12 node) && all_zero (slice (12 + c) 23 node))
+module _ (node : List ℕ) (c : ℕ) (some_child : 1 ≤ c) (few : c ≤ 11) where
+  unused_parts : unused_zero node c ≡ (all_zero (take (12 - c) (drop c node)) && all_zero (take (23 - (12 + c)) (drop (12 + c) node)))
   unfolding unused_zero key_words value_words
-  unused_parts = ap₂ ◌&&◌ (part_zero node 1 11 (c - 1) ∙ ap (λ (x : ℕ). all_zero (slice x 12 node)) (let z : 1 + (c - 1) ≡ c = omega arith in z)) (part_zero node 12 11 c)
+  unused_parts =
+      let e : 11 - (c - 1) ≡ 12 - c = omega arith in
+      let f : 1 + (c - 1) ≡ c = omega arith in
+      let g : 11 - c ≡ 23 - (12 + c) = omega arith in
+      ap₂ ◌&&◌ (part_zero node 1 11 (c - 1) (omega arith) ∙ ap₂ (λ (x y : ℕ). all_zero (take x (drop y node))) e f)
+      (part_zero node 12 11 c few ∙ ap (λ (x : ℕ). all_zero (take x (drop (12 + c) node))) g)
 
-  pub unused_keys : all_zero (slice c 12 node) ≡ false → unused_zero node c ≡ false
+  pub unused_keys : all_zero (take (12 - c) (drop c node)) ≡ false → unused_zero node c ≡ false
   unused_keys e = unused_parts ∙ rw e
 
-  pub unused_values : all_zero (slice c 12 node) ≡ true → unused_zero node c ≡ all_zero (slice (12 + c) 23 node)
+  pub unused_values : all_zero (take (12 - c) (drop c node)) ≡ true → unused_zero node c ≡ all_zero (take (23 - (12 + c)) (drop (12 + c) node))
   unused_values e = unused_parts ∙ rw e
 
 -- ---- a first look at a leaf
@@ -280,9 +291,8 @@ pick_else_bad : (b : Bool) (x : Look) (c : ℕ) (g : Findings) → pick b x bad 
 pick_else_bad true x c g e = e
 pick_else_bad false x c g e = impossible (cc)
 
-look_inner : (entry : Entry) (f : Findings) (c : ℕ) (g : Findings) → look_of entry f ≡ inner c g → entry ≡ Inner c
+look_inner : (entry : Entry) (f : Findings) (c : ℕ) (g : Findings) → look_of (Some entry) f ≡ inner c g → entry ≡ Inner c
 unfolding look_of
-look_inner Refused f c g e = impossible (cc)
 look_inner Leaf f c g e = impossible (cc)
 look_inner (Inner k) f c g e = ap Inner (let z : k ≡ c = cc in z)
 
@@ -356,9 +366,9 @@ stored_length found v key run = length-set (set (set found 0 v) 1 key) 2 run ∙
 -- the first violation is noted, a second one is refused
 module _ (free : List Bool) (found : List ℕ) (entry : Entry) (key run : ℕ) where
   pub noted_first : 3 ≤ length found → get_or found 0 0 ≡ 0
-      → look_of entry (findings_of free (set (set (set found 0 1) 1 key) 2 run)) ≡ noted true entry (findings_of free found) key run
+      → look_of (Some entry) (findings_of free (set (set (set found 0 1) 1 key) 2 run)) ≡ noted true entry (findings_of free found) key run
   unfolding noted findings_of
-  noted_first l e = ap (look_of entry) (found_stored free found 1 key run l) ∙ rw (eq-eqb (get_or found 0 0) 0 e)
+  noted_first l e = ap (look_of (Some entry)) (found_stored free found 1 key run l) ∙ rw (eq-eqb (get_or found 0 0) 0 e)
 
   pub noted_again : (get_or found 0 0 ≡ 0 → ⊥) → bad ≡ noted true entry (findings_of free found) key run
   unfolding noted findings_of
@@ -366,25 +376,31 @@ module _ (free : List Bool) (found : List ℕ) (entry : Entry) (key run : ℕ) w
 
 -- ---- the answer for the children as the answer for their parent
 
-abbrev Raise : Bool → Checked → Checked → Type 0
-Raise tagged r a = ((f : Findings) → checked_of a f ≡ raised tagged (checked_of r f)) × (height_of a ≤ height_of r + 1)
+module _ (tagged : Bool) (height : ℕ) (f : Findings) (x : Option (ℕ × Findings)) where
+  pub raised_none : none ≡ x → none ≡ raised tagged x
+  unfolding raised
+  raised_none e = ap (raised tagged) e
 
-pub raise_unsound : (tagged : Bool) (r : Checked) → r ≡ Unsound → Raise tagged r Unsound
-unfolding checked_of height_of raised
-raise_unsound tagged r e = (λ f. rw e, omega arith)
+  pub raised_tagged : tagged ≡ true → some (height, f) ≡ x → some (height, f) ≡ raised tagged x
+  unfolding raised
+  raised_tagged t e = rw t (ap (raised true) e)
 
-pub sound_height : (r : Checked) (height : ℕ) → r ≡ Sound height → height_of r ≡ height
-unfolding height_of
-sound_height r height e = ap height_of e
+  pub raised_more : tagged ≡ false → some (height, f) ≡ x → some (height + 1, f) ≡ raised tagged x
+  unfolding raised
+  raised_more t e = rw (t, add-one height) (ap (raised false) e)
 
-module _ (tagged : Bool) (r : Checked) (height : ℕ) (e : r ≡ Sound height) where
-  pub raise_tagged : tagged ≡ true → Raise tagged r (Sound height)
-  unfolding checked_of height_of raised
-  raise_tagged t = (λ f. rw (e, t), omega (arith, sound_height r height e))
+-- what the look at an internal node tells
+module _ (entry : Entry) (c : ℕ) (e : entry ≡ Inner c) where
+  pub look_found : (f : Findings) {l : Look} → look_of (Some entry) f ≡ l → l ≡ inner c f
+  unfolding look_of
+  look_found f p = sym p ∙ ap (λ (x : Entry). look_of (Some x) f) e
 
-  pub raise_more : tagged ≡ false → Raise tagged r (Sound (height + 1))
-  unfolding checked_of height_of raised
-  raise_more t = (λ f. rw (e, t, add-one height), omega (arith, sound_height r height e))
+  pub counts_found : (node before after : List ℕ) → EntryCounts (Some entry) node before after → (kind_of node ≡ 1 → ⊥) × (after ≡ before)
+  counts_found node before after p = subst (λ (x : Entry). EntryCounts (Some x) node before after) e p
+
+pub is_leaf : (entry : Entry) → ((c : ℕ) → entry ≡ Inner c → ⊥) → entry ≡ Leaf
+is_leaf Leaf p = refl
+is_leaf (Inner c) p = absurd (p c refl)
 
 -- no check of a child succeeds, and there is a child
 pub children_none : (check : ChildCheck) → ((low high m : ℕ) (f : Findings) → check low high m f ≡ none)

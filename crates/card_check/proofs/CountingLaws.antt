@@ -2,28 +2,24 @@
 use mathlib.Core.Path.{◌≡◌, refl, ap, sym, ◌∙◌}
 use mathlib.Core.List.{List, [], ◌∷◌, ◌++◌, append-nil}
 use mathlib.Core.Bool.{Bool, true, false, ◌&&◌, ◌||◌, not}
-use mathlib.Core.Option.{Option, none, some}
-use mathlib.Core.Logic.{by_cases}
 use Prim.Native.Nat.{ℕ, zero, suc, ◌+◌, ◌-◌, ◌*◌, ◌^◌, ◌≤◌, ◌<◌}
 use native.Mathlib.Omega.{arith}
-use native.Mathlib.Decide.{ℕ_discrete}
-use lib.ListN.{length, get_or, set, take, drop, length-append, length-drop, length-replicate, get_or-replicate, drop_of_length-le}
-use lib.Seq.{get_or-set_same, get_or-set_other, take_all, ext_get_or}
+use lib.ListN.{length, get_or, set, take, drop, length-append, length-drop, drop_of_length-le}
+use lib.Seq.{take_all}
 use lib.Dec.{eqb, ltb, leb}
 use borrow.Author.Tests.{ltb-true, leb-true, ne_eqb, eq-eqb}
+use Rattle.std.specs.Prelude.{Option as Answer, Some, None}
 use Rattle.laws.specs.Cases.{pick}
 use Rattle.laws.proofs.Cases.{and_true, impossible}
 use Rattle.card.specs.Layout.{node_at, kind_of, key_words, value_words, children, slot_pairs, leaf_pairs}
 use Rattle.card.proofs.NodeLaws.{length_key_words, length_value_words}
-use Rattle.card_family.specs.Families.{family_count, family_size, family_of, no_totals, counted_in, several_in}
+use Rattle.card_family.specs.Families.{family_count, family_size, family_of, counted_in, several_in}
 use Rattle.card_family.proofs.FamilyLaws.{one_family, several_none, several_more}
-use Rattle.card_check.specs.Check.{member, slot_sound, leaf_sound, Findings, findings_of, checked_of, raised, look_of, Looks, enter_leaf}
+use Rattle.card_check.specs.Check.{member, slot_sound, leaf_sound, Findings, findings_of, look_of, Looks, enter_leaf}
 use Rattle.card_check.specs.Check.{enter_inner, noted, inner_sound, unused_zero, bad, leaf, inner}
 use Rattle.card_check.specs.Counting.{keys_counted, children_counted, node_counted, EntryCounts}
-use Rattle.card_check.specs.declared.Checked.{Checked}
-use Rattle.card_check.specs.declared.Checked.TheVariants.{Unsound, Sound}
 use Rattle.card_check.specs.declared.Entry.{Entry}
-use Rattle.card_check.specs.declared.Entry.TheVariants.{Refused, Leaf, Inner}
+use Rattle.card_check.specs.declared.Entry.TheVariants.{Leaf, Inner}
 use Rattle.card_check.proofs.CheckLaws.{key_drop, child_drop, enter_leaf_inner}
 
 -- ---- a leaf, slot by slot from the last on
@@ -99,20 +95,6 @@ stored_totals (a ∷ []) v key run = refl
 stored_totals (a ∷ b ∷ []) v key run = refl
 stored_totals (a ∷ b ∷ c ∷ found) v key run = refl
 
--- ---- all totals become 0, from the first on
-
-pub cleared_more : (totals : List ℕ) (i : ℕ) → i < length totals → ((j : ℕ) → j < i → get_or totals j 0 ≡ 0)
-    → (j : ℕ) → j < i + 1 → get_or (set totals i 0) j 0 ≡ 0
-cleared_more totals i h before j l =
-    by_cases (ℕ_discrete j i)
-    (λ e. ap (λ (x : ℕ). get_or (set totals i 0) x 0) e ∙ get_or-set_same totals i 0 0 h)
-    (λ d. get_or-set_other totals i j 0 0 d ∙ before j (omega arith))
-
-pub cleared_all : (totals : List ℕ) → length totals ≡ family_count → ((j : ℕ) → j < family_count → get_or totals j 0 ≡ 0) → totals ≡ no_totals
-cleared_all totals l all =
-    ext_get_or 0 totals no_totals (l ∙ sym (length-replicate {A = ℕ} family_count 0))
-    (λ j h. all j (omega arith) ∙ sym (get_or-replicate family_count j 0 0 (omega arith)))
-
 -- ---- a first look at a node
 
 -- no internal node looks like a leaf
@@ -137,19 +119,19 @@ enter_inner_leaf node tagged low run root f g e =
     go false true true q = noted_leaf (tagged || ltb (length (children node)) 2) (length (children node)) f low (pick tagged run 0) g q
 
 module _ (node before after : List ℕ) (low : ℕ) (root : Bool) where
-  pub counts_leaf : (r : Entry) (high : ℕ) → kind_of node ≡ 1 → Looks r before after (enter_leaf node low high root)
-      → ((r ≡ Refused → ⊥) → drop 3 after ≡ keys_counted (key_words node) (drop 3 before)) → EntryCounts r node (drop 3 before) (drop 3 after)
+  pub counts_leaf : (r : Answer Entry) (high : ℕ) → kind_of node ≡ 1 → Looks r before after (enter_leaf node low high root)
+      → ((r ≡ None → ⊥) → drop 3 after ≡ keys_counted (key_words node) (drop 3 before)) → EntryCounts r node (drop 3 before) (drop 3 after)
   unfolding look_of
-  counts_leaf Refused high k looks e = tt
-  counts_leaf Leaf high k looks e = (k, e (λ q. impossible (cc)))
-  counts_leaf (Inner c) high k looks e = absurd (enter_leaf_inner node low high root (findings_of [] before) c (findings_of [] after) (sym (looks [])))
+  counts_leaf None high k looks e = tt
+  counts_leaf (Some Leaf) high k looks e = (k, e (λ q. impossible (cc)))
+  counts_leaf (Some (Inner c)) high k looks e = absurd (enter_leaf_inner node low high root (findings_of [] before) c (findings_of [] after) (sym (looks [])))
 
-  pub counts_inner : (r : Entry) (tagged : Bool) (run : ℕ) → (kind_of node ≡ 1 → ⊥) → Looks r before after (enter_inner node tagged low run root)
+  pub counts_inner : (r : Answer Entry) (tagged : Bool) (run : ℕ) → (kind_of node ≡ 1 → ⊥) → Looks r before after (enter_inner node tagged low run root)
       → drop 3 after ≡ drop 3 before → EntryCounts r node (drop 3 before) (drop 3 after)
   unfolding look_of
-  counts_inner Refused tagged run p looks e = tt
-  counts_inner Leaf tagged run p looks e = absurd (enter_inner_leaf node tagged low run root (findings_of [] before) (findings_of [] after) (sym (looks [])))
-  counts_inner (Inner c) tagged run p looks e = (p, e)
+  counts_inner None tagged run p looks e = tt
+  counts_inner (Some Leaf) tagged run p looks e = absurd (enter_inner_leaf node tagged low run root (findings_of [] before) (findings_of [] after) (sym (looks [])))
+  counts_inner (Some (Inner c)) tagged run p looks e = (p, e)
 
 -- ---- a node and all below it
 
@@ -159,27 +141,15 @@ module _ (card : List ℕ) (m : ℕ) (totals : List ℕ) where
   counted_leaf zero e = rw (eq-eqb (kind_of (node_at card m)) 1 e)
   counted_leaf (suc levels) e = rw (eq-eqb (kind_of (node_at card m)) 1 e)
 
-  pub leaf_counted : (levels : ℕ) (r : Entry) (after : List ℕ) → r ≡ Leaf → EntryCounts r (node_at card m) totals after → after ≡ node_counted levels card m totals
-  leaf_counted levels Refused after e k = impossible (cc)
-  leaf_counted levels Leaf after e k = k.1 ∙ sym (counted_leaf levels k.0)
-  leaf_counted levels (Inner c) after e k = impossible (cc)
+  pub leaf_counted : (levels : ℕ) (r : Answer Entry) (after : List ℕ) → r ≡ Some Leaf → EntryCounts r (node_at card m) totals after → after ≡ node_counted levels card m totals
+  leaf_counted levels None after e k = impossible (cc)
+  leaf_counted levels (Some Leaf) after e k = k.1 ∙ sym (counted_leaf levels k.0)
+  leaf_counted levels (Some (Inner c)) after e k = impossible (cc)
 
   pub counted_inner : (levels : ℕ) → (levels ≡ 0 → ⊥) → (kind_of (node_at card m) ≡ 1 → ⊥)
       → node_counted levels card m totals ≡ children_counted (node_counted (levels - 1) card) (children (node_at card m)) totals
   unfolding node_counted
   counted_inner levels p k = ap (λ (x : ℕ). node_counted x card m totals) (let z : levels ≡ suc (levels - 1) = omega arith in z) ∙ rw (ne_eqb (kind_of (node_at card m)) 1 k)
-
--- where a node is sound its children are
-pub raised_sound : (tagged : Bool) (r a : Checked) → ((f : Findings) → checked_of a f ≡ raised tagged (checked_of r f)) → (h : ℕ) → a ≡ Sound h → (k : ℕ) × (r ≡ Sound k)
-unfolding checked_of raised
-raised_sound tagged Unsound a e h s =
-    let f : Findings = findings_of [] [] in
-    let q : ◌≡◌ {A = Option (ℕ × Findings)} (some (h, f)) none = sym (ap (λ (x : Checked). checked_of x f) s) ∙ e f in
-    impossible (cc)
-raised_sound tagged (Sound k) a e h s = (k, refl)
-
-pub unsound_not : (h : ℕ) → Unsound ≡ Sound h → ⊥
-unsound_not h e = impossible (cc)
 
 module _ (node : List ℕ) (len : length node ≡ 24) (c i : ℕ) (counted : c ≡ length (children node)) (count : ℕ → List ℕ → List ℕ) (totals : List ℕ) where
   pub turn_counted : i < c → children_counted count (drop i (children node)) totals ≡ children_counted count (drop (i + 1) (children node)) (count (get_or node (12 + i) 0) totals)

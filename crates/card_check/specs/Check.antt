@@ -1,18 +1,12 @@
 -- The check of a table as it is computed. That it accepts exactly the sound tables is a theorem of the crate theory_check.
-use Rattle.std.specs.Prelude.{◌≡◌, Bool, true, false, ◌&&◌, ◌||◌, not, List, [], ◌∷◌, ℕ, zero, suc, ◌-◌, ◌<◌, length, get_or, set, drop, eqb, ltb, leb}
+use Rattle.std.specs.Prelude.{◌≡◌, Bool, true, false, ◌&&◌, ◌||◌, not, List, [], ◌∷◌, ℕ, zero, suc, ◌-◌, ◌<◌, length, get_or, set, drop, eqb, ltb, leb, Option as Answer, Some, None}
 use Rattle.std.proofs.Math.Option.{Option, none, some}
 use Rattle.laws.specs.Cases.{pick, guard, bind}
 use Rattle.laws.specs.Lists.{zero_after}
 use Rattle.card.specs.Layout.{lowest_key, key_limit, root_place, depth_limit, node_at, kind_of, key_words, value_words, children, routing_keys, leaf_pairs, run_below}
 use Rattle.card_free.specs.NodeSet.{all_nodes}
-use Rattle.card_check.specs.declared.Checked.{Checked}
-use Rattle.card_check.specs.declared.Checked.TheVariants.{Unsound, Sound}
-use Rattle.card_check.specs.declared.leaves.Counted.{Counted}
-use Rattle.card_check.specs.declared.leaves.Counted.TheVariants.{Unsound as Miscounted, Pairs}
 use Rattle.card_check.specs.declared.Entry.{Entry}
-use Rattle.card_check.specs.declared.Entry.TheVariants.{Refused, Leaf, Inner}
-use Rattle.card_check.specs.declared.RangeEnd.{RangeEnd}
-use Rattle.card_check.specs.declared.RangeEnd.TheVariants.{Wrong, At}
+use Rattle.card_check.specs.declared.Entry.TheVariants.{Leaf, Inner}
 
 -- what was learnt so far, with the free nodes as a list of Bools
 pub record Findings : Type 0 where
@@ -26,13 +20,13 @@ unfoldable pub findings_of : List Bool → List ℕ → Findings
 findings_of free found = record { free = free; violated = not (eqb (get_or found 0 0) 0); key = get_or found 1 0; run = get_or found 2 0 }
 
 -- the height of a sound part, and what was learnt
-unfoldable pub checked_of : Checked → Findings → Option (ℕ × Findings)
-checked_of Unsound f = none
-checked_of (Sound height) f = some (height, f)
+unfoldable pub checked_of : Answer ℕ → Findings → Option (ℕ × Findings)
+checked_of None f = none
+checked_of (Some height) f = some (height, f)
 
-unfoldable pub height_of : Checked → ℕ
-height_of Unsound = 0
-height_of (Sound height) = height
+unfoldable pub height_of : Answer ℕ → ℕ
+height_of None = 0
+height_of (Some height) = height
 
 -- whether a key is one of the words
 unfoldable pub member : ℕ → List ℕ → Bool
@@ -53,9 +47,9 @@ abbrev pub Least : ℕ → List ℕ → Type 0
 Least least ks = (k : ℕ) → (k ≡ 0 → ⊥) → k < least → member k ks ≡ false
 
 -- what the code's count of a leaf's pairs tells
-abbrev pub Counts : Counted → Bool → ℕ → Type 0
-Counts Miscounted sound pairs = sound ≡ false
-Counts (Pairs n) sound pairs = (sound ≡ true) × (n ≡ pairs)
+abbrev pub Counts : Answer ℕ → Bool → ℕ → Type 0
+Counts None sound pairs = sound ≡ false
+Counts (Some n) sound pairs = (sound ≡ true) × (n ≡ pairs)
 
 -- "all other words but the kind are 0", for c children
 unfoldable pub unused_zero : List ℕ → ℕ → Bool
@@ -67,19 +61,19 @@ pub data Look : Type 0 where
   leaf : Findings → Look
   inner : ℕ → Findings → Look
 
-unfoldable pub look_of : Entry → Findings → Look
-look_of Refused f = bad
-look_of Leaf f = leaf f
-look_of (Inner c) f = inner c f
+unfoldable pub look_of : Answer Entry → Findings → Look
+look_of None f = bad
+look_of (Some Leaf) f = leaf f
+look_of (Some (Inner c)) f = inner c f
 
 -- a look that leaves the words of findings so, whatever nodes are free
-abbrev pub Looks : Entry → List ℕ → List ℕ → (Findings → Look) → Type 0
+abbrev pub Looks : Answer Entry → List ℕ → List ℕ → (Findings → Look) → Type 0
 Looks entry before after look = (free : List Bool) → look_of entry (findings_of free after) ≡ look (findings_of free before)
 
 -- "A sound table has at most one fault": the entry with a violation noted where there is one, bad where it is the second
 unfoldable pub noted : Bool → Entry → Findings → ℕ → ℕ → Look
 noted violates entry f key run =
-    pick violates (pick f.violated bad (look_of entry (record { free = f.free; violated = true; key = key; run = run }))) (look_of entry f)
+    pick violates (pick f.violated bad (look_of (Some entry) (record { free = f.free; violated = true; key = key; run = run }))) (look_of (Some entry) f)
 
 -- "if a leaf 0 to 11 pairs. Other leaves have 1 to 11 pairs"
 unfoldable pub enter_leaf : List ℕ → ℕ → ℕ → Bool → Findings → Look
@@ -159,6 +153,6 @@ unfoldable pub table_check : List ℕ → ℕ → Option (ℕ × Findings)
 table_check card n = tree_check card n (get_or card root_place 0) (start n)
 
 -- the same as the code holds it
-unfoldable pub range_end_of : RangeEnd → Option ℕ
-range_end_of Wrong = none
-range_end_of (At end) = some end
+unfoldable pub range_end_of : Answer ℕ → Option ℕ
+range_end_of None = none
+range_end_of (Some end) = some end

@@ -1,36 +1,23 @@
 // One leaf: "A leaf is sound when its keys are distinct and in its range".
-ghost use Rattle.std.specs.Prelude.{◌≡◌, true, ◌&&◌, not, ◌+◌, ◌≤◌, ◌<◌, ltb, leb, length, get_or, drop};
+ghost use Rattle.std.specs.Prelude.{◌≡◌, true, ◌&&◌, not, ◌+◌, ◌<◌, ltb, leb, length, get_or, drop};
 ghost use Rattle.card.specs.Layout.{key_words, leaf_pairs};
 ghost use Rattle.card_family.specs.Families.{family_count};
 ghost use Rattle.card_check.specs.Check.{member, leaf_sound, Least, Counts};
 ghost use Rattle.card_check.specs.Counting.{keys_counted};
-
-use crate::wide;
 
 // Whether the key of slot i stands in a later slot too.
 fn is_repeated(node: &[u32], i: usize) -> bool
     requires { (length node.now ≡ 24) × (i < 11) }
     ensures { result ≡ member (get_or node.now (1 + i) 0) (drop (i + 1) (key_words node.now)) }
 {
-    let key = node[card::KEYS + i];
-    let mut j = i + 1;
-    while j < card::SLOTS {
-        if node[card::KEYS + j] == key {
-            return true;
-        }
-        j += 1;
-    }
-    false
+    node[card::KEYS + i + 1..card::VALUES].contains(&node[card::KEYS + i])
 }
 
 // Whether a key lies in the range from `low`, included, to `high`, excluded.
 fn is_in_range(key: u32, low: u32, high: u64) -> bool
     ensures { result ≡ (leb low key && ltb key high) }
 {
-    if key < low {
-        return false;
-    }
-    wide(key) < high
+    low <= key && u64::from(key) < high
 }
 
 // Whether the key of slot i stands in no later slot. Keys mostly rise from slot to slot: one below all later ones needs no search.
@@ -38,48 +25,27 @@ fn is_new(node: &[u32], i: usize, least: u32) -> bool
     requires { (length node.now ≡ 24) × (i < 11) × ((get_or node.now (1 + i) 0 ≡ 0) → ⊥) × Least least (drop (i + 1) (key_words node.now)) }
     ensures { result ≡ not (member (get_or node.now (1 + i) 0) (drop (i + 1) (key_words node.now))) }
 {
-    if node[card::KEYS + i] < least {
-        return true;
-    }
-    !is_repeated(node, i)
-}
-
-fn lesser(a: u32, b: u32) -> u32
-    ensures { (result ≤ a) × (result ≤ b) }
-{
-    if a < b { a } else { b }
-}
-
-// What a look at all slots of a leaf finds.
-#[derive(Clone, Copy)]
-pub enum Counted {
-    Unsound,
-    Pairs(usize),
+    node[card::KEYS + i] < least || !is_repeated(node, i)
 }
 
 // How many pairs a leaf holds whose keys are distinct and in its range.
-pub fn leaf_pairs(node: &[u32], low: u32, high: u64) -> Counted
+pub fn leaf_pairs(node: &[u32], low: u32, high: u64) -> Option<usize>
     requires { length node.now ≡ 24 }
     ensures { Counts result (leaf_sound low high (key_words node.now)) (length (leaf_pairs node.now)) }
 {
-    let mut least: u32 = 4294967295;
-    let mut pairs: usize = 0;
-    let mut i: usize = card::SLOTS;
-    while 0 < i {
-        i -= 1;
+    let mut least = u32::MAX;
+    let mut pairs = 0;
+    for i in (0..card::SLOTS).rev() {
         let key = node[card::KEYS + i];
         if key != 0 {
-            if !is_in_range(key, low, high) {
-                return Counted::Unsound;
+            if !is_in_range(key, low, high) || !is_new(node, i, least) {
+                return None;
             }
-            if !is_new(node, i, least) {
-                return Counted::Unsound;
-            }
-            least = lesser(key, least);
+            least = least.min(key);
             pairs += 1;
         }
     }
-    Counted::Pairs(pairs)
+    Some(pairs)
 }
 
 // Each key of a leaf is counted into the totals by family.
@@ -87,9 +53,7 @@ fn count_keys(node: &[u32], totals: &mut [u32])
     requires { (length node.now ≡ 24) × (length totals.old ≡ family_count) }
     ensures { totals.new ≡ keys_counted (key_words node.now) totals.old }
 {
-    let mut i: usize = card::SLOTS;
-    while 0 < i {
-        i -= 1;
+    for i in (0..card::SLOTS).rev() {
         let key = node[card::KEYS + i];
         if key != 0 {
             card_family::count_in(totals, key);

@@ -7,13 +7,12 @@ mod entering;
 mod leaves;
 mod unused;
 
-ghost use Rattle.std.specs.Prelude.{◌≡◌, true, false, ◌||◌, ℕ, ◌+◌, ◌*◌, ◌-◌, ◌≤◌, ◌<◌, length, drop, eqb};
-ghost use Rattle.card_family.specs.Families.{family_count, no_totals};
+ghost use Rattle.std.specs.Prelude.{◌≡◌, true, false, ℕ, ◌+◌, ◌*◌, ◌-◌, ◌≤◌, ◌<◌, length, drop, Some};
+ghost use Rattle.card_family.specs.Families.{family_count};
 ghost use Rattle.card_free.specs.NodeSet.{word_count, nodes_of};
 ghost use Rattle.card.specs.Layout.{greatest_nodes, depth_limit, children, routing_keys, run_below};
-ghost use Rattle.card_check.specs.Check.{Findings, findings_of, checked_of, height_of, raised, children_check, node_check, tree_check, table_check, range_end, range_end_of};
+ghost use Rattle.card_check.specs.Check.{findings_of, checked_of, height_of, children_check, node_check, tree_check, table_check, range_end, range_end_of};
 ghost use Rattle.card_check.specs.Counting.{children_counted, node_counted, table_counted};
-ghost use Rattle.card_check.specs.declared.Checked.TheVariants.{Sound};
 
 use entering::enter;
 
@@ -30,25 +29,9 @@ pub const TOTALS: usize = 3;
 
 pub const FOUND_WORDS: usize = TOTALS + card_family::FAMILIES;
 
-// The answer of a check: whether the part is sound, and its height (tagged nodes not counted). Where it is not, what the lent
-// words then hold says nothing.
-#[derive(Clone, Copy)]
-pub enum Checked {
-    Unsound,
-    Sound(usize),
-}
-
-// A number as a wider one.
-fn wide(x: u32) -> u64
-    ensures { result ≡ x }
-{
-    x as u64
-}
-
-// What a first look at a node finds.
+// What a first look at a sound node finds: a leaf, or an internal node with so many children.
 #[derive(Clone, Copy)]
 pub enum Entry {
-    Refused,
     Leaf,
     Inner(usize),
 }
@@ -61,61 +44,25 @@ fn child_run(c: usize, run: u32) -> u32
     if c == card::SLOTS { run + 1 } else { 0 }
 }
 
-// The answer for the children as the answer for their parent, which is one level higher where it is not tagged.
-fn raise(r: Checked, tagged: bool) -> Checked
-    requires { height_of r < depth_limit }
-    ensures checked { (f : Findings) → checked_of result f ≡ raised tagged (checked_of r f) }
-    ensures result_bound { height_of result ≤ height_of r + 1 }
-{
-    match r {
-        Checked::Unsound => Checked::Unsound,
-        Checked::Sound(height) => {
-            if tagged {
-                return Checked::Sound(height);
-            }
-            Checked::Sound(height + 1)
-        }
-    }
-}
-
-// Where the range of a child ends, excluded.
-#[derive(Clone, Copy)]
-enum RangeEnd {
-    Wrong,
-    At(u64),
-}
-
 // The end of child i's range, which begins at `from` in a node whose own range ends at `high`: the routing key after the
-// child, or `high` for the last. Wrong where that key does not rise above `from` or is not below `high`.
-fn range_end(node: &[u32], c: usize, i: usize, from: u32, high: u64) -> RangeEnd
+// child, or `high` for the last. None where that key does not rise above `from` or is not below `high`.
+fn range_end(node: &[u32], c: usize, i: usize, from: u32, high: u64) -> Option<u64>
     requires { (length node.now ≡ 24) × (c ≡ length (children node.now)) × (i < c) }
     ensures { range_end_of result ≡ range_end from high (drop i (routing_keys node.now)) }
 {
     if c <= i + 1 {
-        return RangeEnd::At(high);
+        return Some(high);
     }
     let key = node[card::KEYS + i];
-    if key <= from {
-        return RangeEnd::Wrong;
+    let end = u64::from(key);
+    if key <= from || high <= end {
+        return None;
     }
-    let end = wide(key);
-    if high <= end {
-        return RangeEnd::Wrong;
-    }
-    RangeEnd::At(end)
+    Some(end)
 }
 
-// Whether a child is as high as the children before it, or is the first.
-fn is_level(first: bool, height: usize, before: usize) -> bool
-    ensures { result ≡ (first || eqb height before) }
-{
-    if first {
-        return true;
-    }
-    height == before
-}
-
-// Node m and all below it, past at most `levels` internal nodes. Ten arguments, here and below, since the numbers that change from
+// Node m and all below it, past at most `levels` internal nodes: the height of a sound part (tagged nodes not counted), or None
+// for one that is not sound. Then what the lent words hold says nothing. Ten arguments, here and below, since the numbers that change from
 // node to node stay numbers: with `n` to `root` in a struct an opening of 3,000 pairs takes 135,361 instructions and not 127,921.
 #[cycle(children_check_node_check)]
 fn node_check(
@@ -129,28 +76,26 @@ fn node_check(
     root: bool,
     free: &mut [u32],
     found: &mut [u32],
-) -> Checked
+) -> Option<usize>
     requires { (length card.now ≡ 8 + 24 * n) × (n ≤ greatest_nodes) × (run + levels ≤ depth_limit) × (length free.old ≡ word_count) × (length found.old ≡ 3 + family_count) }
     ensures found_after { checked_of result (findings_of (nodes_of free.new) found.new)
         ≡ node_check levels card.now n run root low high m (findings_of (nodes_of free.old) found.old) }
     ensures result_bound { height_of result ≤ levels }
-    ensures by_index { (h : ℕ) → result ≡ Sound h → drop 3 found.new ≡ node_counted levels card.now m (drop 3 found.old) }
+    ensures by_index { (h : ℕ) → result ≡ Some h → drop 3 found.new ≡ node_counted levels card.now m (drop 3 found.old) }
 {
-    let entry = enter(card, n, m, low, high, run, root, free, found);
-    match entry {
-        Entry::Refused => Checked::Unsound,
-        Entry::Leaf => Checked::Sound(0),
-        Entry::Inner(c) => {
-            if levels == 0 {
-                return Checked::Unsound;
-            }
-            let node = card::node_at(card, m);
-            let kind = node[0];
-            let below = child_run(c, run);
-            let r = children_check(card, node, n, c, levels - 1, low, high, below, free, found);
-            raise(r, kind == card::TAGGED)
-        }
+    let Entry::Inner(c) = enter(card, n, m, low, high, run, root, free, found)? else {
+        return Some(0);
+    };
+    if levels == 0 {
+        return None;
     }
+    let node = card::node_at(card, m);
+    let below = child_run(c, run);
+    let height = children_check(card, node, n, c, levels - 1, low, high, below, free, found)?;
+    if node[0] == card::TAGGED {
+        return Some(height);
+    }
+    Some(height + 1)
 }
 
 // All c children of an internal node, left to right, each in its range and all equally high. A loop, so that the stack
@@ -167,48 +112,29 @@ fn children_check(
     run: u32,
     free: &mut [u32],
     found: &mut [u32],
-) -> Checked
+) -> Option<usize>
     requires { (length card.now ≡ 8 + 24 * n) × (n ≤ greatest_nodes) × (length node.now ≡ 24)
         × (c ≡ length (children node.now)) × (run + levels ≤ depth_limit) × (length free.old ≡ word_count) × (length found.old ≡ 3 + family_count) }
     ensures found_after { checked_of result (findings_of (nodes_of free.new) found.new)
         ≡ children_check (node_check levels card.now n run false) true 0 low high
         (routing_keys node.now) (children node.now) (findings_of (nodes_of free.old) found.old) }
     ensures result_bound { height_of result ≤ levels }
-    ensures by_index { (h : ℕ) → result ≡ Sound h → drop 3 found.new
+    ensures by_index { (h : ℕ) → result ≡ Some h → drop 3 found.new
         ≡ children_counted (node_counted levels card.now) (children node.now) (drop 3 found.old) }
 {
     let mut from = low;
-    let mut height: usize = 0;
-    let mut i: usize = 0;
-    while i < c {
-        let RangeEnd::At(to) = range_end(node, c, i, from, high) else {
-            return Checked::Unsound;
-        };
+    let mut height = 0;
+    for i in 0..c {
+        let to = range_end(node, c, i, from, high)?;
         let m = node[card::VALUES + i] as usize;
-        let Checked::Sound(its) = node_check(card, n, m, levels, from, to, run, false, free, found)
-        else {
-            return Checked::Unsound;
-        };
-        if !is_level(i == 0, its, height) {
-            return Checked::Unsound;
+        let its = node_check(card, n, m, levels, from, to, run, false, free, found)?;
+        if i != 0 && its != height {
+            return None;
         }
         height = its;
         from = node[card::KEYS + i];
-        i += 1;
     }
-    Checked::Sound(height)
-}
-
-// No pair is counted yet.
-fn clear_totals(totals: &mut [u32])
-    requires { length totals.old ≡ family_count }
-    ensures { totals.new ≡ no_totals }
-{
-    let mut i: usize = 0;
-    while i < card_family::FAMILIES {
-        totals[i] = 0;
-        i += 1;
-    }
+    Some(height)
 }
 
 // A whole tree of a card with n nodes, from its root, after what was learnt before it.
@@ -218,11 +144,11 @@ pub fn check_tree(
     root: usize,
     free: &mut [u32],
     found: &mut [u32],
-) -> Checked
+) -> Option<usize>
     requires { (length card.now ≡ 8 + 24 * n) × (n ≤ greatest_nodes) × (length free.old ≡ word_count) × (length found.old ≡ 3 + family_count) }
     ensures found_after { checked_of result (findings_of (nodes_of free.new) found.new)
         ≡ tree_check card.now n root (findings_of (nodes_of free.old) found.old) }
-    ensures by_index { (h : ℕ) → result ≡ Sound h → drop 3 found.new ≡ node_counted depth_limit card.now root (drop 3 found.old) }
+    ensures by_index { (h : ℕ) → result ≡ Some h → drop 3 found.new ≡ node_counted depth_limit card.now root (drop 3 found.old) }
 {
     node_check(
         card,
@@ -239,15 +165,12 @@ pub fn check_tree(
 }
 
 // The whole table of a card with n nodes.
-pub fn check_table(card: &[u32], n: usize, free: &mut [u32], found: &mut [u32]) -> Checked
+pub fn check_table(card: &[u32], n: usize, free: &mut [u32], found: &mut [u32]) -> Option<usize>
     requires { (length card.now ≡ 8 + 24 * n) × (n ≤ greatest_nodes) × (length free.old ≡ word_count) × (length found.old ≡ 3 + family_count) }
     ensures found_after { checked_of result (findings_of (nodes_of free.new) found.new) ≡ table_check card.now n }
-    ensures by_index { (h : ℕ) → result ≡ Sound h → drop 3 found.new ≡ table_counted card.now }
+    ensures by_index { (h : ℕ) → result ≡ Some h → drop 3 found.new ≡ table_counted card.now }
 {
     card_free::fill(free, n);
-    found[VIOLATED] = 0;
-    found[KEY] = 0;
-    found[RUN] = 0;
-    clear_totals(&mut found[TOTALS..FOUND_WORDS]);
+    found.fill(0);
     check_tree(card, n, card[card::ROOT_PLACE] as usize, free, found)
 }

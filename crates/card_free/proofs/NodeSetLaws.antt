@@ -7,12 +7,12 @@ use native.Mathlib.Nat.{le_of_suc-le-suc, not-suc-le-zero}
 use native.Mathlib.Omega.{arith}
 use lib.ListN.{length, get_or, set, drop, replicate, length-drop, length-append, drop_of_length-le, length-replicate, get_or-replicate, get_or-append}
 use lib.Seq.{get_or-append-add, get_or-drop}
+use Rattle.std.specs.Prelude.{Option, Some, None}
+use Rattle.std.specs.Option.{option_or}
 use Rattle.laws.specs.Digits.{digits_of}
 use Rattle.laws.proofs.Digits.{length_digits}
 use Rattle.laws.proofs.Cases.{impossible}
-use Rattle.card_free.specs.NodeSet.{capacity, nodes_of, all_nodes, count_true, first_true, first_from, or_else, next_free}
-use Rattle.card_free.specs.declared.Next.{Next}
-use Rattle.card_free.specs.declared.Next.TheVariants.{Node, Nothing}
+use Rattle.card_free.specs.NodeSet.{capacity, nodes_of, all_nodes, count_true, first_true, first_from, next_free}
 
 pub length_nodes : (words : List ℕ) → length (nodes_of words) ≡ 32 * length words
 unfolding nodes_of
@@ -21,7 +21,7 @@ length_nodes (word ∷ words) = omega (arith, length-append (digits_of 32 word) 
 
 -- ---- what a search finds
 
-first_found : (bits : List Bool) (a m : ℕ) → first_true bits a ≡ Node m → (get_or bits (m - a) false ≡ true) × (a ≤ m) × (m < a + length bits)
+first_found : (bits : List Bool) (a m : ℕ) → first_true bits a ≡ Some m → (get_or bits (m - a) false ≡ true) × (a ≤ m) × (m < a + length bits)
 unfolding first_true
 first_found [] a m e = impossible (cc)
 first_found (true ∷ bits) a m e =
@@ -33,7 +33,7 @@ first_found (false ∷ bits) a m e =
     let s : m - a ≡ suc (m - suc a) = omega arith in
     (rw s h.0, omega arith, omega arith)
 
-pub from_found : (bits : List Bool) (a m : ℕ) → first_from bits a ≡ Node m → (get_or bits m false ≡ true) × (a ≤ m) × (m < length bits)
+pub from_found : (bits : List Bool) (a m : ℕ) → first_from bits a ≡ Some m → (get_or bits m false ≡ true) × (a ≤ m) × (m < length bits)
 unfolding first_from
 from_found bits a m e =
     let h = first_found (drop a bits) a m e in
@@ -41,46 +41,46 @@ from_found bits a m e =
     (rw (← s) (sym (get_or-drop a bits (m - a) false) ∙ h.0), omega arith, omega (arith, length-drop a bits))
 
 -- the next free node is free, is not 0, and is a place of the list
-pub next_found : (bits : List Bool) (last m : ℕ) → next_free bits last ≡ Node m → (get_or bits m false ≡ true) × (1 ≤ m) × (m < length bits)
-unfolding next_free or_else
+pub next_found : (bits : List Bool) (last m : ℕ) → next_free bits last ≡ Some m → (get_or bits m false ≡ true) × (1 ≤ m) × (m < length bits)
+unfolding next_free
 next_found bits last m e = go (first_from bits (last + 1)) refl e
   where
-    go : (first : Next) → first_from bits (last + 1) ≡ first → or_else first (first_from bits 1) ≡ Node m
+    go : (first : Option ℕ) → first_from bits (last + 1) ≡ first → option_or first (first_from bits 1) ≡ Some m
         → (get_or bits m false ≡ true) × (1 ≤ m) × (m < length bits)
-    go (Node k) f e = let h = from_found bits (last + 1) m (f ∙ e) in (h.0, omega arith, h.2)
-    go Nothing f e = from_found bits 1 m e
+    go (Some k) f e = let h = from_found bits (last + 1) m (f ∙ e) in (h.0, omega arith, h.2)
+    go None f e = from_found bits 1 m e
 
-first_exists : (bits : List Bool) (a : ℕ) → 0 < count_true bits → (m : ℕ) × (first_true bits a ≡ Node m)
+first_exists : (bits : List Bool) (a : ℕ) → 0 < count_true bits → (m : ℕ) × (first_true bits a ≡ Some m)
 unfolding first_true count_true
 first_exists [] a h = absurd (not-suc-le-zero h)
 first_exists (true ∷ bits) a h = (a, refl)
 first_exists (false ∷ bits) a h = first_exists bits (suc a) h
 
 -- while a node is free there is a next one
-pub next_exists : (bits : List Bool) (last : ℕ) → get_or bits 0 false ≡ false → 0 < count_true bits → (m : ℕ) × (next_free bits last ≡ Node m)
-unfolding next_free or_else first_from count_true
+pub next_exists : (bits : List Bool) (last : ℕ) → get_or bits 0 false ≡ false → 0 < count_true bits → (m : ℕ) × (next_free bits last ≡ Some m)
+unfolding next_free first_from count_true
 next_exists bits last z h = go (first_from bits (last + 1)) (round bits z h)
   where
-    round : (bits : List Bool) → get_or bits 0 false ≡ false → 0 < count_true bits → (m : ℕ) × (first_from bits 1 ≡ Node m)
+    round : (bits : List Bool) → get_or bits 0 false ≡ false → 0 < count_true bits → (m : ℕ) × (first_from bits 1 ≡ Some m)
     round [] z h = absurd (not-suc-le-zero h)
     round (true ∷ rest) z h = impossible (cc)
     round (false ∷ rest) z h = first_exists rest 1 h
 
-    go : (first : Next) → (m : ℕ) × (first_from bits 1 ≡ Node m) → (m : ℕ) × (or_else first (first_from bits 1) ≡ Node m)
-    go (Node k) f = (k, refl)
-    go Nothing f = f
+    go : (first : Option ℕ) → (m : ℕ) × (first_from bits 1 ≡ Some m) → (m : ℕ) × (option_or first (first_from bits 1) ≡ Some m)
+    go (Some k) f = (k, refl)
+    go None f = f
 
 -- the two ways that a search goes
-pub next_after : (bits : List Bool) (last m : ℕ) → first_from bits (last + 1) ≡ Node m → next_free bits last ≡ Node m
-unfolding next_free or_else
+pub next_after : (bits : List Bool) (last m : ℕ) → first_from bits (last + 1) ≡ Some m → next_free bits last ≡ Some m
+unfolding next_free
 next_after bits last m e = rw e
 
-pub next_round : (bits : List Bool) (last : ℕ) → first_from bits (last + 1) ≡ Nothing → next_free bits last ≡ first_from bits 1
-unfolding next_free or_else
+pub next_round : (bits : List Bool) (last : ℕ) → first_from bits (last + 1) ≡ None → next_free bits last ≡ first_from bits 1
+unfolding next_free
 next_round bits last e = rw e
 
 -- a search past the end of the list finds nothing
-pub from_past : (bits : List Bool) (a : ℕ) → length bits ≤ a → first_from bits a ≡ Nothing
+pub from_past : (bits : List Bool) (a : ℕ) → length bits ≤ a → first_from bits a ≡ None
 unfolding first_from first_true
 from_past bits a h = rw (drop_of_length-le bits {i = a} h)
 

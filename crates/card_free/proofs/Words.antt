@@ -1,18 +1,19 @@
 -- The words that hold a set of nodes: what a load, a store and a count of one word mean for the list of Bools. Assumes nothing.
-use mathlib.Core.Path.{◌≡◌, refl, sym, ap, ◌∙◌}
+use mathlib.Core.Path.{◌≡◌, refl, sym, ap, ap₂, ◌∙◌}
 use mathlib.Core.Bool.{Bool, true, false}
-use mathlib.Core.List.{List, [], ◌∷◌, ◌++◌, append_assoc, append-nil}
+use mathlib.Core.List.{List, [], ◌∷◌, ◌++◌, map, append_assoc}
 use Prim.Native.Nat.{ℕ, zero, suc, ◌+◌, ◌-◌, ◌*◌, ◌/◌, ◌%◌, ◌^◌, ◌≤◌, ◌<◌}
 use native.Mathlib.Nat.{not-suc-le-zero, pow-suc}
-use native.Mathlib.Numerals.{add-one}
 use native.Mathlib.Omega.{arith}
 use native.Mathlib.Decide.{ℕ_discrete, dec_lt}
-use lib.ListN.{length, get_or, set, take, length-set, get_or-append}
-use lib.Seq.{get_or-append-add, get_or-set_same, get_or-set_other, ext_get_or, take-suc}
+use lib.ListN.{length, get_or, set, length-set, get_or-append}
+use lib.Seq.{get_or-append-add, get_or-set_same, get_or-set_other, ext_get_or}
 use lib.Dec.{eqb}
 use lib.Bits.{bit_and, bit_or}
 use lib.Count.{ones, ones_step}
 use borrow.Author.Tests.{eq-eqb, ne_eqb}
+use Rattle.std.specs.List.{sum}
+use Rattle.std.proofs.lemmas.List.Sums.{sum_by-cons}
 use Rattle.laws.proofs.Digits.{digit, length_digits, digits_get, digit_shr, one_shl, digit_set_same, digit_set_other, digit_clear_same, digit_clear_other}
 use Rattle.laws.specs.Digits.{digits_of}
 use Rattle.card_free.specs.NodeSet.{nodes_of, count_true}
@@ -127,12 +128,11 @@ unfolding nodes_of
 nodes_append [] b = refl
 nodes_append (word ∷ a) b = ap (λ (x : List Bool). digits_of 32 word ++ x) (nodes_append a b) ∙ sym (append_assoc (digits_of 32 word) (nodes_of a) (nodes_of b))
 
--- one word more
-pub count_next_word : (words : List ℕ) (q : ℕ) → q < length words → get_or words q 0 < 2 ^ 32
-    → count_true (nodes_of (take (q + 1) words)) ≡ count_true (nodes_of (take q words)) + ones (get_or words q 0)
-unfolding nodes_of
-count_next_word words q h fits =
-    ap (λ (x : List ℕ). count_true (nodes_of x)) (ap (λ (x : ℕ). take x words) (add-one q) ∙ take-suc words q 0 h)
-    ∙ ap count_true (nodes_append (take q words) (get_or words q 0 ∷ []))
-    ∙ count_append (nodes_of (take q words)) (digits_of 32 (get_or words q 0) ++ [])
-    ∙ ap (λ (x : ℕ). count_true (nodes_of (take q words)) + x) (ap count_true (append-nil (digits_of 32 (get_or words q 0))) ∙ count_digits 32 (get_or words q 0) fits)
+-- the sum of the words' ones
+pub count_words : (words : List ℕ) → ((i : ℕ) → get_or words i 0 < 2 ^ 32) → sum (map ones words) ≡ count_true (nodes_of words)
+unfolding nodes_of count_true
+count_words [] fits = refl
+count_words (word ∷ words) fits =
+    sum_by-cons (λ x. x) (ones word) (map ones words)
+    ∙ ap₂ (λ (a b : ℕ). a + b) (sym (count_digits 32 word (fits 0))) (count_words words (λ i. fits (suc i)))
+    ∙ sym (count_append (digits_of 32 word) (nodes_of words))

@@ -1,8 +1,7 @@
 -- The free nodes as a list of Bools, of which place m tells of node m, and the next free node. Assumes nothing: these are definitions.
-use Rattle.std.specs.Prelude.{Bool, true, false, List, [], ◌∷◌, ◌++◌, ℕ, suc, ◌+◌, ◌-◌, ◌*◌, drop, replicate}
+use Rattle.std.specs.Prelude.{Bool, true, false, List, [], ◌∷◌, ◌++◌, ℕ, suc, ◌+◌, ◌-◌, ◌*◌, drop, replicate, Option, Some, None}
+use Rattle.std.specs.Option.{option_or}
 use Rattle.laws.specs.Digits.{digits_of}
-use Rattle.card_free.specs.declared.Next.{Next}
-use Rattle.card_free.specs.declared.Next.TheVariants.{Node, Nothing}
 
 -- How many words of 32 bits a set has; the code's `WORDS` says the same.
 abbrev pub word_count : ℕ
@@ -32,21 +31,16 @@ count_true (true ∷ bits) = suc (count_true bits)
 count_true (false ∷ bits) = count_true bits
 
 -- the first true of a list whose first place has the number a
-unfoldable pub first_true : List Bool → ℕ → Next
-first_true [] a = Nothing
-first_true (true ∷ bits) a = Node a
+unfoldable pub first_true : List Bool → ℕ → Option ℕ
+first_true [] a = None
+first_true (true ∷ bits) a = Some a
 first_true (false ∷ bits) a = first_true bits (suc a)
 
 -- the first free node at or after a
-unfoldable pub first_from : List Bool → ℕ → Next
+unfoldable pub first_from : List Bool → ℕ → Option ℕ
 first_from bits a = first_true (drop a bits) a
-
--- the first answer, or the second where the first is Nothing
-unfoldable pub or_else : Next → Next → Next
-or_else (Node m) other = Node m
-or_else Nothing other = other
 
 -- "A change takes the next free node after the one given last, going round from N to 1".
 -- Nodes above N are never free, so the search need not know N.
-unfoldable pub next_free : List Bool → ℕ → Next
-next_free bits last = or_else (first_from bits (last + 1)) (first_from bits 1)
+unfoldable pub next_free : List Bool → ℕ → Option ℕ
+next_free bits last = option_or (first_from bits (last + 1)) (first_from bits 1)

@@ -13,37 +13,26 @@ pub const WORDS: usize = card::FREE_WORDS;
 // How many bits that makes: a node of the set is below it.
 pub const CAPACITY: usize = WORDS * 32;
 
-#[derive(Clone, Copy)]
-pub enum Next {
-    Node(usize),
-    Nothing,
-}
-
 // Node m is bit m % 32 of word m / 32.
 pub fn contains(words: &[u32], m: usize) -> bool
     requires { (length words.now ≡ word_count) × (m < capacity) }
     ensures { result ≡ get_or (nodes_of words.now) m false }
 {
-    let word = words[m / 32];
-    (word >> (m % 32)) % 2 == 1
+    (words[m / 32] >> (m % 32)) % 2 == 1
 }
 
 pub fn put_in(words: &mut [u32], m: usize)
     requires { (length words.old ≡ word_count) × (m < capacity) }
     ensures { nodes_of words.new ≡ set (nodes_of words.old) m true }
 {
-    let q = m / 32;
-    let word = words[q];
-    words[q] = word | (1u32 << (m % 32));
+    words[m / 32] |= 1 << (m % 32);
 }
 
 pub fn take_out(words: &mut [u32], m: usize)
     requires { (length words.old ≡ word_count) × (m < capacity) }
     ensures { nodes_of words.new ≡ set (nodes_of words.old) m false }
 {
-    let q = m / 32;
-    let word = words[q];
-    words[q] = word & !(1u32 << (m % 32));
+    words[m / 32] &= !(1 << (m % 32));
 }
 
 // Word q of the set of nodes 0 to n.
@@ -66,43 +55,38 @@ pub fn fill(words: &mut [u32], n: usize)
     requires { (length words.old ≡ word_count) × (n < capacity) }
     ensures { nodes_of words.new ≡ all_nodes n }
 {
-    let mut q: usize = 0;
-    while q < WORDS {
+    // By index: of what a loop over `iter_mut().enumerate()` writes a proof knows nothing.
+    for q in 0..WORDS {
         words[q] = full_word(q, n);
-        q += 1;
     }
     take_out(words, 0);
 }
 
 // The first node of the set at or after a. The first word is masked, so that its trailing zeros pass over the nodes before a.
-fn first_from(words: &[u32], a: usize) -> Next
+fn first_from(words: &[u32], a: usize) -> Option<usize>
     requires { (length words.now ≡ word_count) × (a < capacity) }
     ensures { result ≡ first_from (nodes_of words.now) a }
 {
-    let mut q = a / 32;
-    let mut word = words[q] & (u32::MAX << (a % 32));
-    while word == 0 {
-        q += 1;
-        if WORDS <= q {
-            return Next::Nothing;
+    let mut mask = u32::MAX << (a % 32);
+    for q in a / 32..WORDS {
+        let word = words[q] & mask;
+        if word != 0 {
+            return Some(q * 32 + word.trailing_zeros() as usize);
         }
-        word = words[q];
+        mask = u32::MAX;
     }
-    Next::Node(q * 32 + u32::trailing_zeros(word) as usize)
+    None
 }
 
 // The next node of the set after `last`, going round to 1. Nothing lies after the last bit, so any `last` is taken.
-pub fn next_free(words: &[u32], last: usize) -> Next
+pub fn next_free(words: &[u32], last: usize) -> Option<usize>
     requires { length words.now ≡ word_count }
     ensures { result ≡ next_free (nodes_of words.now) last }
 {
     if CAPACITY - 1 <= last {
         return first_from(words, 1);
     }
-    let Next::Node(m) = first_from(words, last + 1) else {
-        return first_from(words, 1);
-    };
-    Next::Node(m)
+    first_from(words, last + 1).or_else(|| first_from(words, 1))
 }
 
 // How many nodes the set has.
@@ -110,9 +94,5 @@ pub fn count(words: &[u32]) -> usize
     requires { length words.now ≡ word_count }
     ensures { result ≡ count_true (nodes_of words.now) }
 {
-    let mut sum: usize = 0;
-    for q in 0..WORDS {
-        sum += u32::count_ones(words[q]) as usize;
-    }
-    sum
+    words.iter().map(|word| word.count_ones() as usize).sum()
 }

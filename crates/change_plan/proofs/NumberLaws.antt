@@ -13,8 +13,7 @@ use Rattle.change_plan.specs.Planning.{numbers_from, take_numbers, without_all, 
 use Rattle.change_plan.specs.Plan.{Among}
 use Rattle.card_free.specs.NodeSet.{word_count, capacity, nodes_of, next_free}
 use Rattle.card_free.proofs.NodeSetLaws.{length_nodes, next_found}
-use Rattle.card_free.specs.declared.Next.{Next}
-use Rattle.card_free.specs.declared.Next.TheVariants.{Node, Nothing}
+use Rattle.std.specs.Prelude.{Option as Found, Some, None}
 use Rattle.laws.proofs.Cases.{impossible}
 use Rattle.change_plan.proofs.Search.{Swept, swept_first, onward, never_none}
 
@@ -30,7 +29,7 @@ unfolding prefixed
 prefixed_none none = refl
 prefixed_none (some rest) = refl
 
-prefixed_more : (ms : List ℕ) (m : ℕ) (o : Option (List ℕ)) → prefixed ms (numbers_from (Node m) (λ x. o)) ≡ prefixed (ms ++ m ∷ []) o
+prefixed_more : (ms : List ℕ) (m : ℕ) (o : Option (List ℕ)) → prefixed ms (numbers_from (Some m) (λ x. o)) ≡ prefixed (ms ++ m ∷ []) o
 unfolding numbers_from prefixed
 prefixed_more ms m none = refl
 prefixed_more ms m (some rest) = ap some (sym (append_assoc ms (m ∷ []) rest))
@@ -46,17 +45,17 @@ last_more last [] m = refl
 last_more last (x ∷ ms) m = last_more x ms m
 
 module _ (k : ℕ) (free : List Bool) (last : ℕ) where
-  take_none : next_free free last ≡ Nothing → take_numbers (suc k) free last ≡ none
+  take_none : next_free free last ≡ None → take_numbers (suc k) free last ≡ none
   unfolding take_numbers numbers_from
   take_none e = rw e
 
   -- the first number, and what the rest finds among the nodes without it
-  take_rest : (m : ℕ) (fewer : List Bool) (rest : Option (List ℕ)) → next_free free last ≡ Node m → fewer ≡ set free m false → take_numbers k fewer m ≡ rest
-      → take_numbers (suc k) free last ≡ numbers_from (Node m) (λ x. rest)
+  take_rest : (m : ℕ) (fewer : List Bool) (rest : Option (List ℕ)) → next_free free last ≡ Some m → fewer ≡ set free m false → take_numbers k fewer m ≡ rest
+      → take_numbers (suc k) free last ≡ numbers_from (Some m) (λ x. rest)
   unfolding take_numbers numbers_from
   take_rest m fewer rest e f g =
-      ap (λ (x : Next). numbers_from x (λ a. take_numbers k (set free a false) a)) e
-      ∙ ap (λ (o : Option (List ℕ)). numbers_from (Node m) (λ x. o)) (ap (λ (x : List Bool). take_numbers k x m) (sym f) ∙ g)
+      ap (λ (x : Found ℕ). numbers_from x (λ a. take_numbers k (set free a false) a)) e
+      ∙ ap (λ (o : Option (List ℕ)). numbers_from (Some m) (λ x. o)) (ap (λ (x : List Bool). take_numbers k x m) (sym f) ∙ g)
 
 -- How far the search has come: no number is found and the first is 0, or it has swept the nodes from the first to the latest.
 pub data Progress : List ℕ → ℕ → ℕ → List Bool → Type 0 where
@@ -81,17 +80,17 @@ taking_start nodes last k free z =
 
 module _ (nodes : List ℕ) (latest i : ℕ) (free : List Bool) where
   -- what the search finds in the whole set is what it finds among the nodes that are left
-  fewer_none : Progress nodes latest i free → next_free free latest ≡ Nothing → next_free (without_all (take i nodes) free) latest ≡ Nothing
+  fewer_none : Progress nodes latest i free → next_free free latest ≡ None → next_free (without_all (take i nodes) free) latest ≡ None
   unfolding without_all
   fewer_none (none_yet z f) e = ap (λ (x : ℕ). next_free (without_all (take x nodes) free) latest) z ∙ e
   fewer_none (some_yet p o t s) e = absurd (never_none free (get_or nodes 0 0) latest o t e)
 
-  module _ (m : ℕ) (e : next_free free latest ≡ Node m) where
-    fewer_round : Progress nodes latest i free → m ≡ get_or nodes 0 0 → next_free (without_all (take i nodes) free) latest ≡ Nothing
+  module _ (m : ℕ) (e : next_free free latest ≡ Some m) where
+    fewer_round : Progress nodes latest i free → m ≡ get_or nodes 0 0 → next_free (without_all (take i nodes) free) latest ≡ None
     fewer_round (none_yet z f) h = absurd (omega (arith, (next_found free latest m e).1))
     fewer_round (some_yet p o t s) h = (onward free (without_all (take i nodes) free) (get_or nodes 0 0) latest m o t s e).stops h
 
-    fewer_found : Progress nodes latest i free → (m ≡ get_or nodes 0 0 → ⊥) → next_free (without_all (take i nodes) free) latest ≡ Node m
+    fewer_found : Progress nodes latest i free → (m ≡ get_or nodes 0 0 → ⊥) → next_free (without_all (take i nodes) free) latest ≡ Some m
     unfolding without_all
     fewer_found (none_yet z f) h = ap (λ (x : ℕ). next_free (without_all (take x nodes) free) latest) z ∙ e
     fewer_found (some_yet p o t s) h = (onward free (without_all (take i nodes) free) (get_or nodes 0 0) latest m o t s e).finds h
@@ -126,7 +125,7 @@ module _ (nodes : List ℕ) (latest i k : ℕ) (free : List Bool) (last : ℕ) (
       ∙ ap (λ (x : ℕ). prefixed (take i nodes) (take_numbers x (without_all (take i nodes) free) latest)) (let z : k - i ≡ suc (k - (i + 1)) = omega arith in z)
 
   -- one more
-  pub taking_more : (m : ℕ) → length nodes ≡ 3 → k ≤ 3 → i < k → next_free free latest ≡ Node m → (m ≡ get_or nodes 0 0 → ⊥)
+  pub taking_more : (m : ℕ) → length nodes ≡ 3 → k ≤ 3 → i < k → next_free free latest ≡ Some m → (m ≡ get_or nodes 0 0 → ⊥)
       → Taking (set nodes i m) m (i + 1) k free last
   taking_more m len few h e other =
       let room : i < length nodes = omega arith in
@@ -143,14 +142,14 @@ module _ (nodes : List ℕ) (latest i k : ℕ) (free : List Bool) (last : ℕ) (
       }
 
   -- no more is free
-  ended : i < k → next_free (without_all (take i nodes) free) latest ≡ Nothing → take_numbers k free last ≡ none
+  ended : i < k → next_free (without_all (take i nodes) free) latest ≡ None → take_numbers k free last ≡ none
   unfolding prefixed
   ended h e = left h ∙ ap (prefixed (take i nodes)) (take_none (k - (i + 1)) (without_all (take i nodes) free) latest e)
 
-  pub taking_none : i < k → next_free free latest ≡ Nothing → take_numbers k free last ≡ none
+  pub taking_none : i < k → next_free free latest ≡ None → take_numbers k free last ≡ none
   taking_none h e = ended h (fewer_none nodes latest i free t.progress e)
 
-  pub taking_round : (m : ℕ) → i < k → next_free free latest ≡ Node m → m ≡ get_or nodes 0 0 → take_numbers k free last ≡ none
+  pub taking_round : (m : ℕ) → i < k → next_free free latest ≡ Some m → m ≡ get_or nodes 0 0 → take_numbers k free last ≡ none
   taking_round m h e z = ended h (fewer_round nodes latest i free m e t.progress z)
 
   -- while none is looked for the first is 0
@@ -176,21 +175,21 @@ unfolding take_numbers numbers_from
 number_within zero free last ms e i h = absurd (omega arith)
 number_within (suc k) free last ms e i h = on_next_lem (λ m rest g j l. number_within k (set free m false) m rest g j l) (next_free free last) refl e
   where
-    at : (m : ℕ) (rest : List ℕ) → next_free free last ≡ Node m → ((j : ℕ) → j < k → (1 ≤ get_or rest j 0) × (get_or rest j 0 < length (set free m false)))
+    at : (m : ℕ) (rest : List ℕ) → next_free free last ≡ Some m → ((j : ℕ) → j < k → (1 ≤ get_or rest j 0) × (get_or rest j 0 < length (set free m false)))
         → (j : ℕ) → j < suc k → (1 ≤ get_or (m ∷ rest) j 0) × (get_or (m ∷ rest) j 0 < length free)
     at m rest f ih zero l = ((next_found free last m f).1, (next_found free last m f).2)
     at m rest f ih (suc j) l = ((ih j (omega arith)).0, omega (arith, (ih j (omega arith)).1, length-set free m false))
 
-    on_rest : (m : ℕ) → next_free free last ≡ Node m → (o : Option (List ℕ))
+    on_rest : (m : ℕ) → next_free free last ≡ Some m → (o : Option (List ℕ))
         → ((rest : List ℕ) → o ≡ some rest → (j : ℕ) → j < k → (1 ≤ get_or rest j 0) × (get_or rest j 0 < length (set free m false)))
-        → numbers_from (Node m) (λ x. o) ≡ some ms → (1 ≤ get_or ms i 0) × (get_or ms i 0 < length free)
+        → numbers_from (Some m) (λ x. o) ≡ some ms → (1 ≤ get_or ms i 0) × (get_or ms i 0 < length free)
     on_rest m f none ih x = impossible (cc)
     on_rest m f (some rest) ih x = let q : ms ≡ m ∷ rest = cc in rw q (at m rest f (ih rest refl) i h)
 
     on_next_lem : ((m : ℕ) (rest : List ℕ) → take_numbers k (set free m false) m ≡ some rest → (j : ℕ) → j < k → (1 ≤ get_or rest j 0) × (get_or rest j 0 < length (set free m false)))
-        → (x : Next) → next_free free last ≡ x → numbers_from x (λ m. take_numbers k (set free m false) m) ≡ some ms → (1 ≤ get_or ms i 0) × (get_or ms i 0 < length free)
-    on_next_lem ih Nothing f g = impossible (cc)
-    on_next_lem ih (Node m) f g = on_rest m f (take_numbers k (set free m false) m) (ih m) g
+        → (x : Found ℕ) → next_free free last ≡ x → numbers_from x (λ m. take_numbers k (set free m false) m) ≡ some ms → (1 ≤ get_or ms i 0) × (get_or ms i 0 < length free)
+    on_next_lem ih None f g = impossible (cc)
+    on_next_lem ih (Some m) f g = on_rest m f (take_numbers k (set free m false) m) (ih m) g
 
 -- ---- a change over the numbers given
 
@@ -206,7 +205,7 @@ giving_some k free last change ms e = rw e
 -- ---- a number given is a node's
 
 -- a node that is found
-pub found_below : (words : List ℕ) (last m : ℕ) → length words ≡ word_count → next_free (nodes_of words) last ≡ Node m → (1 ≤ m) × (m < capacity)
+pub found_below : (words : List ℕ) (last m : ℕ) → length words ≡ word_count → next_free (nodes_of words) last ≡ Some m → (1 ≤ m) × (m < capacity)
 found_below words last m len e = let f = next_found (nodes_of words) last m e in (f.1, omega (arith, f.2, length_nodes words))
 
 pub given_within : (words nodes : List ℕ) (k last : ℕ) → length words ≡ word_count → take_numbers k (nodes_of words) last ≡ some (take k nodes) → Among k nodes

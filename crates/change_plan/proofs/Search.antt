@@ -8,9 +8,9 @@ use native.Mathlib.Omega.{arith}
 use lib.ListN.{get_or, set, drop}
 use lib.Seq.{get_or-drop, get_or-set_other}
 use Rattle.laws.proofs.Cases.{impossible, order}
-use Rattle.card_free.specs.NodeSet.{first_true, first_from, or_else, next_free}
-use Rattle.card_free.specs.declared.Next.{Next}
-use Rattle.card_free.specs.declared.Next.TheVariants.{Node, Nothing}
+use Rattle.card_free.specs.NodeSet.{first_true, first_from, next_free}
+use Rattle.std.specs.Prelude.{Option, Some, None}
+use Rattle.std.specs.Option.{option_or}
 use Rattle.card_free.proofs.NodeSetLaws.{from_found, next_after, next_round}
 
 -- whether a node is free
@@ -19,14 +19,14 @@ at bits x = get_or bits x false
 
 -- ---- a search, by what is free before the node found
 
-first_before : (bits : List Bool) (a m : ℕ) → first_true bits a ≡ Node m → (i : ℕ) → a + i < m → at bits i ≡ false
+first_before : (bits : List Bool) (a m : ℕ) → first_true bits a ≡ Some m → (i : ℕ) → a + i < m → at bits i ≡ false
 unfolding first_true
 first_before [] a m e i h = refl
 first_before (true ∷ bits) a m e i h = let s : a ≡ m = cc in absurd (omega arith)
 first_before (false ∷ bits) a m e zero h = refl
 first_before (false ∷ bits) a m e (suc i) h = first_before bits (suc a) m e i (omega arith)
 
-first_none : (bits : List Bool) (a : ℕ) → first_true bits a ≡ Nothing → (i : ℕ) → at bits i ≡ false
+first_none : (bits : List Bool) (a : ℕ) → first_true bits a ≡ None → (i : ℕ) → at bits i ≡ false
 unfolding first_true
 first_none [] a e i = refl
 first_none (true ∷ bits) a e i = impossible (cc)
@@ -37,42 +37,42 @@ module _ (bits : List Bool) (a : ℕ) where
   dropped : (x : ℕ) → a ≤ x → at bits x ≡ at (drop a bits) (x - a)
   dropped x l = ap (at bits) (let s : x ≡ a + (x - a) = omega arith in s) ∙ sym (get_or-drop a bits (x - a) false)
 
-  from_before : (m : ℕ) → first_from bits a ≡ Node m → (x : ℕ) → a ≤ x → x < m → at bits x ≡ false
+  from_before : (m : ℕ) → first_from bits a ≡ Some m → (x : ℕ) → a ≤ x → x < m → at bits x ≡ false
   unfolding first_from
   from_before m e x l h = dropped x l ∙ first_before (drop a bits) a m e (x - a) (omega arith)
 
-  from_none : first_from bits a ≡ Nothing → (x : ℕ) → a ≤ x → at bits x ≡ false
+  from_none : first_from bits a ≡ None → (x : ℕ) → a ≤ x → at bits x ≡ false
   unfolding first_from
   from_none e x l = dropped x l ∙ first_none (drop a bits) a e (x - a)
 
-  found_is : (m : ℕ) → at bits m ≡ true → a ≤ m → ((x : ℕ) → a ≤ x → x < m → at bits x ≡ false) → first_from bits a ≡ Node m
+  found_is : (m : ℕ) → at bits m ≡ true → a ≤ m → ((x : ℕ) → a ≤ x → x < m → at bits x ≡ false) → first_from bits a ≡ Some m
   found_is m t l before = go (first_from bits a) refl
     where
-      go : (r : Next) → first_from bits a ≡ r → r ≡ Node m
-      go Nothing e = let f = from_none e m l in impossible (cc)
-      go (Node k) e =
+      go : (r : Option ℕ) → first_from bits a ≡ r → r ≡ Some m
+      go None e = let f = from_none e m l in impossible (cc)
+      go (Some k) e =
           let g = from_found bits a k e in
           order k m (λ less. let f = before k g.1 less in let u = g.0 in impossible (cc))
-          (λ not. order m k (λ more. let f = from_before k e m l more in impossible (cc)) (λ le. ap Node (let s : k ≡ m = omega arith in s)))
+          (λ not. order m k (λ more. let f = from_before k e m l more in impossible (cc)) (λ le. ap Some (let s : k ≡ m = omega arith in s)))
 
-  none_is : ((x : ℕ) → a ≤ x → at bits x ≡ false) → first_from bits a ≡ Nothing
+  none_is : ((x : ℕ) → a ≤ x → at bits x ≡ false) → first_from bits a ≡ None
   none_is h = go (first_from bits a) refl
     where
-      go : (r : Next) → first_from bits a ≡ r → r ≡ Nothing
-      go Nothing e = refl
-      go (Node k) e = let g = from_found bits a k e in let f = h k g.1 in let u = g.0 in impossible (cc)
+      go : (r : Option ℕ) → first_from bits a ≡ r → r ≡ None
+      go None e = refl
+      go (Some k) e = let g = from_found bits a k e in let f = h k g.1 in let u = g.0 in impossible (cc)
 
 -- the two ways that a search goes
-next_cases : {P : Type 0} (bits : List Bool) (l m : ℕ) → next_free bits l ≡ Node m → (first_from bits (l + 1) ≡ Node m → P)
-    → (first_from bits (l + 1) ≡ Nothing → first_from bits 1 ≡ Node m → P) → P
-unfolding next_free or_else
+next_cases : {P : Type 0} (bits : List Bool) (l m : ℕ) → next_free bits l ≡ Some m → (first_from bits (l + 1) ≡ Some m → P)
+    → (first_from bits (l + 1) ≡ None → first_from bits 1 ≡ Some m → P) → P
+unfolding next_free
 next_cases {P} bits l m e on around = go (first_from bits (l + 1)) refl e
   where
-    go : (r : Next) → first_from bits (l + 1) ≡ r → or_else r (first_from bits 1) ≡ Node m → P
-    go (Node k) f z = on (f ∙ z)
-    go Nothing f z = around f z
+    go : (r : Option ℕ) → first_from bits (l + 1) ≡ r → option_or r (first_from bits 1) ≡ Some m → P
+    go (Some k) f z = on (f ∙ z)
+    go None f z = around f z
 
-next_none : (bits : List Bool) (l : ℕ) → ((x : ℕ) → 1 ≤ x → at bits x ≡ false) → next_free bits l ≡ Nothing
+next_none : (bits : List Bool) (l : ℕ) → ((x : ℕ) → 1 ≤ x → at bits x ≡ false) → next_free bits l ≡ None
 next_none bits l h = next_round bits l (none_is bits (l + 1) (λ x k. h x (omega arith))) ∙ none_is bits 1 h
 
 -- ---- nodes taken out
@@ -122,16 +122,16 @@ swept_first bits m =
 
 -- what the next search finds: the first again, and then no node is left, or the next of those that are left
 pub record Onward (bits fewer : List Bool) (first last m : ℕ) : Type 0 where
-  pub stops : m ≡ first → next_free fewer last ≡ Nothing
-  pub finds : (m ≡ first → ⊥) → next_free fewer last ≡ Node m
+  pub stops : m ≡ first → next_free fewer last ≡ None
+  pub finds : (m ≡ first → ⊥) → next_free fewer last ≡ Some m
   pub sweeps : (m ≡ first → ⊥) → Swept bits (set fewer m false) first m
 
 module _ (bits fewer : List Bool) (first last m : ℕ) (one : 1 ≤ first) (free : at bits first ≡ true) where
   -- a search that starts before the first does not pass it
-  not_past : (a : ℕ) → a ≤ first → first_from bits a ≡ Node m → m ≤ first
+  not_past : (a : ℕ) → a ≤ first → first_from bits a ≡ Some m → m ≤ first
   not_past a l e = order first m (λ less. let f = from_before bits a m e first l less in impossible (cc)) (λ le. le)
 
-  onward_ahead : Ahead bits fewer first last → next_free bits last ≡ Node m → Onward bits fewer first last m
+  onward_ahead : Ahead bits fewer first last → next_free bits last ≡ Some m → Onward bits fewer first last m
   onward_ahead s n =
       next_cases bits last m n
       (λ e.
@@ -177,7 +177,7 @@ module _ (bits fewer : List Bool) (first last m : ℕ) (one : 1 ≤ first) (free
       differ : (m ≡ first → ⊥) → m ≤ first → m < first
       differ z le = order m first (λ less. less) (λ ge. absurd (z (omega arith)))
 
-  onward_around : Around bits fewer first last → next_free bits last ≡ Node m → Onward bits fewer first last m
+  onward_around : Around bits fewer first last → next_free bits last ≡ Some m → Onward bits fewer first last m
   onward_around s n =
       next_cases bits last m n
       (λ e.
@@ -211,15 +211,15 @@ module _ (bits fewer : List Bool) (first last m : ℕ) (one : 1 ≤ first) (free
       differ : (m ≡ first → ⊥) → m ≤ first → m < first
       differ z le = order m first (λ less. less) (λ ge. absurd (z (omega arith)))
 
-  pub onward : Swept bits fewer first last → next_free bits last ≡ Node m → Onward bits fewer first last m
+  pub onward : Swept bits fewer first last → next_free bits last ≡ Some m → Onward bits fewer first last m
   onward (ahead s) n = onward_ahead s n
   onward (around s) n = onward_around s n
 
 -- while the first is free in the set, the search finds a node
-pub never_none : (bits : List Bool) (first last : ℕ) → 1 ≤ first → at bits first ≡ true → next_free bits last ≡ Nothing → ⊥
-unfolding next_free or_else
+pub never_none : (bits : List Bool) (first last : ℕ) → 1 ≤ first → at bits first ≡ true → next_free bits last ≡ None → ⊥
+unfolding next_free
 never_none bits first last one free e = go (first_from bits (last + 1)) refl e
   where
-    go : (r : Next) → first_from bits (last + 1) ≡ r → or_else r (first_from bits 1) ≡ Nothing → ⊥
-    go (Node k) f z = impossible (cc)
-    go Nothing f z = let h = from_none bits 1 z first one in impossible (cc)
+    go : (r : Option ℕ) → first_from bits (last + 1) ≡ r → option_or r (first_from bits 1) ≡ None → ⊥
+    go (Some k) f z = impossible (cc)
+    go None f z = let h = from_none bits 1 z first one in impossible (cc)

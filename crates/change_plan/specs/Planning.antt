@@ -1,10 +1,8 @@
 -- Document 01, "State, steps and free nodes" and "The changes": the nodes that a change is given, and what a step finds that has none in hand.
-use Rattle.std.specs.Prelude.{Bool, true, false, List, [], ◌∷◌, ℕ, zero, suc, get_or, set}
+use Rattle.std.specs.Prelude.{Bool, true, false, List, [], ◌∷◌, ℕ, zero, suc, get_or, set, Option as Found, Some, None}
 use Rattle.std.proofs.Math.Option.{Option, none, some}
 use Rattle.card.specs.Stores.{Store}
 use Rattle.card_free.specs.NodeSet.{next_free}
-use Rattle.card_free.specs.declared.Next.{Next}
-use Rattle.card_free.specs.declared.Next.TheVariants.{Node, Nothing}
 use Rattle.change_plan.specs.Change.{Change, change_stores}
 
 -- What a step that has no store left to make finds: refusal 9, nothing to repair, or a change with its nodes given: the
@@ -15,9 +13,9 @@ pub data Preparation : Type 0 where
   prepared : List Store → List Bool → ℕ → List ℕ → Preparation
 
 -- "A change takes the next free node after the one given last, going round from N to 1": so many of them, in the order given
-unfoldable pub numbers_from : Next → (ℕ → Option (List ℕ)) → Option (List ℕ)
-numbers_from Nothing rest = none
-numbers_from (Node m) rest = elim (rest m) [ none ↦ none | some ms ↦ some (m ∷ ms) ]
+unfoldable pub numbers_from : Found ℕ → (ℕ → Option (List ℕ)) → Option (List ℕ)
+numbers_from None rest = none
+numbers_from (Some m) rest = elim (rest m) [ none ↦ none | some ms ↦ some (m ∷ ms) ]
 
 unfoldable pub take_numbers : ℕ → List Bool → ℕ → Option (List ℕ)
 take_numbers zero free last = some []

@@ -4,7 +4,7 @@ ghost use Rattle.card_free.specs.NodeSet.{word_count, nodes_of};
 ghost use Rattle.change_plan.specs.Planning.{take_numbers, without_all, last_of};
 ghost use Rattle.change_plan.specs.Plan.{given_by, left_given, Among};
 
-use card_free::{Next, next_free};
+use card_free::next_free;
 
 // "or too few free nodes", or the numbers in the order given, "left, right, then above", with 0 for those that are not needed.
 #[derive(Clone, Copy)]
@@ -23,7 +23,7 @@ pub fn give(free: &[u32], last: usize, count: usize) -> Given
     let mut latest = last;
     let mut i: usize = 0;
     while i < count {
-        let Next::Node(m) = next_free(free, latest) else {
+        let Some(m) = next_free(free, latest) else {
             return Given::TooFew;
         };
         let number = m as u32;

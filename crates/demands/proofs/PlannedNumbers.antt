@@ -10,9 +10,9 @@ use native.Mathlib.Omega.{arith}
 use lib.ListN.{length, get_or, set, drop}
 use lib.Seq.{get_or-drop}
 use Rattle.card.specs.Stores.{Store}
-use Rattle.card_free.specs.NodeSet.{first_true, first_from, or_else, next_free}
-use Rattle.card_free.specs.declared.Next.{Next}
-use Rattle.card_free.specs.declared.Next.TheVariants.{Node, Nothing}
+use Rattle.card_free.specs.NodeSet.{first_true, first_from, next_free}
+use Rattle.std.specs.Prelude.{Option as Found, Some, None}
+use Rattle.std.specs.Option.{option_or}
 use Rattle.card_free.proofs.NodeSetLaws.{from_found, next_found}
 use Rattle.laws.proofs.Cases.{order, impossible}
 use Rattle.change_plan.specs.Change.{Change, change_stores}
@@ -22,14 +22,14 @@ use Rattle.demands.specs.Rules.{NextFree, Given, none_given, then_given, marked}
 -- ---- the next free node
 
 -- no place before the one that a search finds is free, and none at all where it finds nothing
-first_before : (bits : List Bool) (a m : ℕ) → first_true bits a ≡ Node m → (x : ℕ) → a + x < m → get_or bits x false ≡ false
+first_before : (bits : List Bool) (a m : ℕ) → first_true bits a ≡ Some m → (x : ℕ) → a + x < m → get_or bits x false ≡ false
 unfolding first_true
 first_before [] a m e x h = refl
 first_before (true ∷ bits) a m e x h = let s : a ≡ m = cc in absurd (omega arith)
 first_before (false ∷ bits) a m e zero h = refl
 first_before (false ∷ bits) a m e (suc x) h = first_before bits (suc a) m e x (omega arith)
 
-first_nothing : (bits : List Bool) (a : ℕ) → first_true bits a ≡ Nothing → (x : ℕ) → get_or bits x false ≡ false
+first_nothing : (bits : List Bool) (a : ℕ) → first_true bits a ≡ None → (x : ℕ) → get_or bits x false ≡ false
 unfolding first_true
 first_nothing [] a e x = refl
 first_nothing (true ∷ bits) a e x = impossible (cc)
@@ -40,35 +40,35 @@ first_nothing (false ∷ bits) a e (suc x) = first_nothing bits (suc a) e x
 from_place : (bits : List Bool) (a x : ℕ) → a ≤ x → get_or bits x false ≡ get_or (drop a bits) (x - a) false
 from_place bits a x h = ap (λ (y : ℕ). get_or bits y false) (let s : x ≡ a + (x - a) = omega arith in s) ∙ sym (get_or-drop a bits (x - a) false)
 
-from_before : (bits : List Bool) (a m : ℕ) → first_from bits a ≡ Node m → (x : ℕ) → a ≤ x → x < m → get_or bits x false ≡ false
+from_before : (bits : List Bool) (a m : ℕ) → first_from bits a ≡ Some m → (x : ℕ) → a ≤ x → x < m → get_or bits x false ≡ false
 unfolding first_from
 from_before bits a m e x h l = from_place bits a x h ∙ first_before (drop a bits) a m e (x - a) (omega arith)
 
-from_nothing : (bits : List Bool) (a : ℕ) → first_from bits a ≡ Nothing → (x : ℕ) → a ≤ x → get_or bits x false ≡ false
+from_nothing : (bits : List Bool) (a : ℕ) → first_from bits a ≡ None → (x : ℕ) → a ≤ x → get_or bits x false ≡ false
 unfolding first_from
 from_nothing bits a e x h = from_place bits a x h ∙ first_nothing (drop a bits) a e (x - a)
 
 -- "the next free node after the one given last, going round from N to 1"
-pub next_by_rule : (free : List Bool) (last m : ℕ) → next_free free last ≡ Node m → NextFree free last m
-unfolding next_free or_else
+pub next_by_rule : (free : List Bool) (last m : ℕ) → next_free free last ≡ Some m → NextFree free last m
+unfolding next_free
 next_by_rule free last m e = go (first_from free (last + 1)) refl e
   where
     is_free : get_or free m false ≡ true
     is_free = (next_found free last m e).0
 
     -- a node after the last one would have been found first
-    round : first_from free (last + 1) ≡ Nothing → m ≤ last
+    round : first_from free (last + 1) ≡ None → m ≤ last
     round f = order last m (λ o. let a = is_free in let b = from_nothing free (last + 1) f m (omega arith) in impossible (cc)) (λ o. o)
 
-    go : (first : Next) → first_from free (last + 1) ≡ first → or_else first (first_from free 1) ≡ Node m → NextFree free last m
-    go (Node k) f g =
-        let found : first_from free (last + 1) ≡ Node m = f ∙ g in
+    go : (first : Found ℕ) → first_from free (last + 1) ≡ first → option_or first (first_from free 1) ≡ Some m → NextFree free last m
+    go (Some k) f g =
+        let found : first_from free (last + 1) ≡ Some m = f ∙ g in
         record {
           is_node = (next_found free last m e).1;
           is_free = is_free;
           is_next = inl (omega (arith, (from_found free (last + 1) m found).1), λ x a b. from_before free (last + 1) m found x (omega arith) b);
         }
-    go Nothing f g = record { is_node = (next_found free last m e).1; is_free = is_free; is_next = inr (round f, (λ x a. from_nothing free (last + 1) f x (omega arith)), from_before free 1 m g) }
+    go None f g = record { is_node = (next_found free last m e).1; is_free = is_free; is_next = inr (round f, (λ x a. from_nothing free (last + 1) f x (omega arith)), from_before free 1 m g) }
 
 -- and no other is: a node free before it would be next
 same_next : (free : List Bool) (last m k : ℕ) → NextFree free last m → NextFree free last k → m ≡ k
@@ -92,35 +92,35 @@ same_next free last m k x y = order m k (λ o. absurd (before m k x y o)) (λ o.
         go (inr (p, f, f₁)) (inl (q, g)) = also (f b q)
         go (inr (p, f, f₁)) (inr (q, g, h)) = never (h a x.is_node o)
 
-pub next_only : (free : List Bool) (last m : ℕ) → NextFree free last m → next_free free last ≡ Node m
-unfolding next_free or_else
+pub next_only : (free : List Bool) (last m : ℕ) → NextFree free last m → next_free free last ≡ Some m
+unfolding next_free
 next_only free last m x = go (next_free free last) refl
   where
-    none_free : (first : Next) → or_else first (first_from free 1) ≡ Nothing → ⊥
-    none_free (Node k) f = impossible (cc)
-    none_free Nothing f = let a = x.is_free in let b = from_nothing free 1 f m x.is_node in impossible (cc)
+    none_free : (first : Found ℕ) → option_or first (first_from free 1) ≡ None → ⊥
+    none_free (Some k) f = impossible (cc)
+    none_free None f = let a = x.is_free in let b = from_nothing free 1 f m x.is_node in impossible (cc)
 
-    go : (found : Next) → next_free free last ≡ found → next_free free last ≡ Node m
-    go Nothing f = absurd (none_free (first_from free (last + 1)) f)
-    go (Node k) f = f ∙ ap Node (same_next free last k m (next_by_rule free last k f) x)
+    go : (found : Found ℕ) → next_free free last ≡ found → next_free free last ≡ Some m
+    go None f = absurd (none_free (first_from free (last + 1)) f)
+    go (Some k) f = f ∙ ap Some (same_next free last k m (next_by_rule free last k f) x)
 
 -- ---- so many of them
 
 -- the first number, and the others, given without it
 taken : (k : ℕ) (free : List Bool) (last : ℕ) (ms : List ℕ) → take_numbers (suc k) free last ≡ some ms
-    → (m : ℕ) × (rest : List ℕ) × (ms ≡ m ∷ rest) × (next_free free last ≡ Node m) × (take_numbers k (set free m false) m ≡ some rest)
+    → (m : ℕ) × (rest : List ℕ) × (ms ≡ m ∷ rest) × (next_free free last ≡ Some m) × (take_numbers k (set free m false) m ≡ some rest)
 unfolding take_numbers numbers_from
 taken k free last ms e = on_next_lem (next_free free last) refl e
   where
-    on_rest : (m : ℕ) → next_free free last ≡ Node m → (o : Option (List ℕ)) → take_numbers k (set free m false) m ≡ o → numbers_from (Node m) (λ x. o) ≡ some ms
-        → (m : ℕ) × (rest : List ℕ) × (ms ≡ m ∷ rest) × (next_free free last ≡ Node m) × (take_numbers k (set free m false) m ≡ some rest)
+    on_rest : (m : ℕ) → next_free free last ≡ Some m → (o : Option (List ℕ)) → take_numbers k (set free m false) m ≡ o → numbers_from (Some m) (λ x. o) ≡ some ms
+        → (m : ℕ) × (rest : List ℕ) × (ms ≡ m ∷ rest) × (next_free free last ≡ Some m) × (take_numbers k (set free m false) m ≡ some rest)
     on_rest m f none g h = impossible (cc)
     on_rest m f (some rest) g h = (m, rest, cc, f, g)
 
-    on_next_lem : (x : Next) → next_free free last ≡ x → numbers_from x (λ m. take_numbers k (set free m false) m) ≡ some ms
-        → (m : ℕ) × (rest : List ℕ) × (ms ≡ m ∷ rest) × (next_free free last ≡ Node m) × (take_numbers k (set free m false) m ≡ some rest)
-    on_next_lem Nothing f g = impossible (cc)
-    on_next_lem (Node m) f g = on_rest m f (take_numbers k (set free m false) m) refl g
+    on_next_lem : (x : Found ℕ) → next_free free last ≡ x → numbers_from x (λ m. take_numbers k (set free m false) m) ≡ some ms
+        → (m : ℕ) × (rest : List ℕ) × (ms ≡ m ∷ rest) × (next_free free last ≡ Some m) × (take_numbers k (set free m false) m ≡ some rest)
+    on_next_lem None f g = impossible (cc)
+    on_next_lem (Some m) f g = on_rest m f (take_numbers k (set free m false) m) refl g
 
 pub numbers_by_rule : (k : ℕ) (free : List Bool) (last : ℕ) (ms : List ℕ) → take_numbers k free last ≡ some ms → Given free last ms
 unfolding take_numbers

@@ -15,8 +15,7 @@ use Rattle.card_free.proofs.NodeSetLaws.{next_found, next_exists, count_remove}
 use Rattle.laws.proofs.Bits.{bit_true}
 use Rattle.laws.specs.Totals.{indicator, total}
 use Rattle.laws.proofs.Totals.{indicator_same, indicator_other}
-use Rattle.card_free.specs.declared.Next.{Next}
-use Rattle.card_free.specs.declared.Next.TheVariants.{Node}
+use Rattle.std.specs.Prelude.{Option, Some}
 use Rattle.laws.specs.Bits.{bit}
 
 -- 1 where node m is free, else 0
@@ -44,17 +43,17 @@ pub record Given (free : List Bool) (ms : List ℕ) : Type 0 where
   pub counted : count_true (without_all ms free) + length ms ≡ count_true free
   pub kept_length : length (without_all ms free) ≡ length free
 
-numbers_step : (k : ℕ) (free : List Bool) (last m : ℕ) → next_free free last ≡ Node m
+numbers_step : (k : ℕ) (free : List Bool) (last m : ℕ) → next_free free last ≡ Some m
     → take_numbers (suc k) free last ≡ elim (take_numbers k (set free m false) m) [ none ↦ none | some ms ↦ some (m ∷ ms) ]
 unfolding take_numbers numbers_from
-numbers_step k free last m e = ap (λ (x : Next). numbers_from x (λ m. take_numbers k (set free m false) m)) e
+numbers_step k free last m e = ap (λ (x : Option ℕ). numbers_from x (λ m. take_numbers k (set free m false) m)) e
 
 pub numbers_given : (k : ℕ) (free : List Bool) (last : ℕ) → get_or free 0 false ≡ false → k ≤ count_true free → (ms : List ℕ) × (take_numbers k free last ≡ some ms) × (length ms ≡ k) × Given free ms
 unfolding take_numbers without_all
 numbers_given zero free last z h = ([], refl, refl, record { were_free = λ i. omega arith; positive = refl; left = λ i. omega arith; counted = omega arith; kept_length = refl })
 numbers_given (suc k) free last z h = go (next_exists free last z (omega arith)) (λ m. numbers_given k (set free m false) m)
   where
-    go : ((m : ℕ) × (next_free free last ≡ Node m))
+    go : ((m : ℕ) × (next_free free last ≡ Some m))
         → ((m : ℕ) → get_or (set free m false) 0 false ≡ false → k ≤ count_true (set free m false)
         → (ms : List ℕ) × (take_numbers k (set free m false) m ≡ some ms) × (length ms ≡ k) × Given (set free m false) ms)
         → (ms : List ℕ) × (take_numbers (suc k) free last ≡ some ms) × (length ms ≡ suc k) × Given free ms

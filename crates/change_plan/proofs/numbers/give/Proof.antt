@@ -39,7 +39,7 @@ returns-in_default c =
     )
 
 overflow_cast-number : tie.Need-overflow_cast-number invariant-loop-i decreases-loop-i
-overflow_cast-number c = omega (arith, found_below c.args.free.now c.loop-i.latest _ c.requires.0 (sym c.next_free.ensures ∙ c.in-Node.is))
+overflow_cast-number c = omega (arith, found_below c.args.free.now c.loop-i.latest _ c.requires.0 (sym c.next_free.ensures ∙ c.in-Some.is))
 
 bounds-nodes-0 : tie.Need-bounds-nodes-0 invariant-loop-i decreases-loop-i
 bounds-nodes-0 c = search rules
@@ -48,9 +48,9 @@ returns-then-number-nodes : tie.Need-returns-then-number-nodes invariant-loop-i 
 unfolding given_by left_given
 returns-then-number-nodes c =
     let l = c.loop-i in (
-      taking_round _ _ l.i _ _ _ l.invariant.0 c.in-Node.m
+      taking_round _ _ l.i _ _ _ l.invariant.0 c.in-Some.m
           c.loop-i-test.true
-          (sym c.next_free.ensures ∙ c.in-Node.is) c.if-number-nodes.true,
+          (sym c.next_free.ensures ∙ c.in-Some.is) c.if-number-nodes.true,
       λ z. refl,
     )
 
@@ -70,8 +70,8 @@ loop-i-preserved : tie.Need-loop-i-preserved invariant-loop-i decreases-loop-i
 loop-i-preserved c =
     let l = c.loop-i in (
       taking_more _ _ l.i _ _ _ l.invariant.0 _ l.invariant.1 c.requires.1 c.loop-i-test.true
-          (sym c.next_free.ensures ∙ c.in-Node.is) c.if-number-nodes.false,
-      length-set l.nodes l.i c.in-Node.m ∙ l.invariant.1,
+          (sym c.next_free.ensures ∙ c.in-Some.is) c.if-number-nodes.false,
+      length-set l.nodes l.i c.in-Some.m ∙ l.invariant.1,
     )
 
 bounds-nodes-0-2 : tie.Need-bounds-nodes-0-2 invariant-loop-i decreases-loop-i
