@@ -63,5 +63,5 @@ pub fn routing_keys(node: &[u32]) -> &[u32]
     ensures { result.now ≡ routing_keys node.now }
 {
     let count = card::child_count(node);
-    &node[1..count]
+    &node[card::KEYS..count]
 }
