@@ -1,13 +1,11 @@
 -- Laws of rows that are laid out word by word.
-use mathlib.Core.Path.{◌≡◌, ap, ap₂, sym, ◌∙◌}
-use mathlib.Core.List.{List, [], ◌∷◌, ◌++◌, append_assoc, append-nil}
+use mathlib.Core.Path.{◌≡◌, ap, sym, ◌∙◌}
+use mathlib.Core.List.{List, ◌++◌, append_assoc, append-nil}
 use Prim.Native.Nat.{ℕ, suc, ◌+◌, ◌-◌, ◌≤◌, ◌<◌}
 use native.Mathlib.Omega.{arith}
 use native.Mathlib.Numerals.{add-one}
-use lib.ListN.{length, set, get_or, take, drop, replicate, drop_of_length-le, length-append, length-drop, length-set}
-use borrow.Rule.Slice.PartMut.{same_len_mid}
-use lib.Seq.{length-take-le, take_all, take-append_seam, drop-append_seam, take_at, drop_at, drop-drop, take-length, take-suc-set, paste, paste-suc}
-use Rattle.laws.specs.Lists.{pad}
+use lib.ListN.{length, set, get_or, take, drop, drop_of_length-le, length-drop}
+use lib.Seq.{take_all, take_at, drop_at, drop-drop, paste-suc}
 
 -- one word of s more at the front
 pub lay_more : (d s : List ℕ) (i : ℕ) → i < length d → i < length s → set (take i s ++ drop i d) i (get_or s i 0) ≡ take (i + 1) s ++ drop (i + 1) d
@@ -21,10 +19,7 @@ lay_more d s i h l =
 pub lay_all : (d s : List ℕ) (i : ℕ) → length s ≤ i → length d ≤ i → take i s ++ drop i d ≡ s
 lay_all d s i h l = rw (take_all i s h, drop_of_length-le d {i = i} l) (append-nil s)
 
--- the front of a part, and its end, as the code cuts them out
-pub take_start : (k : ℕ) (l : List ℕ) → take (k - 0) l ≡ take k l
-take_start k l = ap (λ (x : ℕ). take x l) (let z : k - 0 ≡ k = omega arith in z)
-
+-- the end of a part, as the code cuts it out
 pub drop_end : (k : ℕ) (l : List ℕ) → take (length l - k) (drop k l) ≡ drop k l
 drop_end k l = take_all (length l - k) (drop k l) (omega (arith, length-drop k l))
 
@@ -35,8 +30,3 @@ lay_next d front part n k e =
     let first : take n (front ++ drop n d) ≡ front = take_at front (drop n d) n e in
     let rest : drop k (drop n (front ++ drop n d)) ≡ drop (n + k) d = ap (drop k) (drop_at front (drop n d) n e) ∙ drop-drop k n d in
     rw (first, rest) (sym (append_assoc front part (drop (n + k) d)))
-
--- a row of which a part was lent, and in which a word then was written, is as long as before
-pub lent_kept : (row part : List ℕ) (n k i x : ℕ) → length part ≡ length (take k (drop n row))
-    → length (set (take n row ++ (part ++ drop k (drop n row))) i x) ≡ length row
-lent_kept row part n k i x e = length-set (take n row ++ (part ++ drop k (drop n row))) i x ∙ same_len_mid n k row part e

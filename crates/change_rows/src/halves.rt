@@ -41,8 +41,8 @@ fn write_right(words: &mut [u32], kind: u32, keys: &[u32], beside: &[u32])
     requires { (length words.old ≡ 24) × Whole kind keys.now beside.now }
     ensures { words.new ≡ right_words (together kind keys.now beside.now) }
 {
-    let half = (beside.len() + 1) / 2;
-    write_node(words, kind, &keys[half..], &beside[half..]);
+    let from = (beside.len() + 1) / 2;
+    write_node(words, kind, &keys[from..], &beside[from..]);
 }
 
 // The 48 words of the two nodes, at the front of a row: "written left, right, then above".

@@ -54,5 +54,12 @@ pub fn lay_split_parent(card: &[u32], p: Position, nodes: [u32; 3], values: &mut
     ensures { values.new ≡ words_laid (split_parent_at card.now p nodes) values.old }
 {
     let (keys, kids) = take_in(card, p);
-    lay_under(p.above, INTERNAL, keys.as_slice(), kids.as_slice(), nodes, values);
+    lay_under(
+        p.above,
+        INTERNAL,
+        keys.as_slice(),
+        kids.as_slice(),
+        nodes,
+        values,
+    );
 }

@@ -1,4 +1,4 @@
-use Rattle.std.proofs.Common.{refl, ap₂, sym, ◌∙◌, List, ℕ, set, arith}
+use Rattle.std.proofs.Common.{ap₂, sym, ◌∙◌, List, ℕ, set, arith}
 use Rattle.change_rows.specs.Nodes.{node_places}
 use Rattle.change_rows.proofs.RowLaws.{lay_more, lay_all}
 use Rattle.change_rows.proofs.NodeLaws.{length_places, place_at}
