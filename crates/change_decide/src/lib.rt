@@ -102,10 +102,10 @@ fn decide_siblings(p: Position, parent: &[u32], x: &[u32], y: &[u32]) -> Decisio
     requires { (length parent.now ≡ 24) × (length x.now ≡ 24) × (length y.now ≡ 24) }
     ensures { result ≡ decide_siblings p parent.now x.now y.now }
 {
-    if both_are(x, y, 1) {
+    if both_are(x, y, card::LEAF) {
         return decide_together(p, parent, card::pair_count(x) + card::pair_count(y));
     }
-    if !both_are(x, y, 2) {
+    if !both_are(x, y, card::INTERNAL) {
         return Decision::Refused;
     }
     let left = card::child_count(x);
@@ -130,7 +130,7 @@ fn is_node(n: usize, m: usize) -> bool
 pub fn left_sibling(p: Position) -> usize
     ensures { result ≡ left_sibling p }
 {
-    if p.index == 0 { 0 } else { p.index - 1 }
+    p.index.saturating_sub(1)
 }
 
 // "Underfull non-root node"; where there is no sibling, or a number is not a node's, the step is refused.
@@ -159,7 +159,7 @@ fn decide_at(card: &[u32], n: usize, p: Position) -> Decision
     ensures { result ≡ decide_at card.now n p }
 {
     let parent = card::node_at(card, p.parent);
-    if parent[0] != 2 {
+    if parent[0] != card::INTERNAL {
         return Decision::Refused;
     }
     let node = card::node_at(card, p.node);

@@ -6,39 +6,27 @@ ghost use Rattle.change_plan.specs.Plan.{given_by, left_given, Among};
 
 use card_free::next_free;
 
-// "or too few free nodes", or the numbers in the order given, "left, right, then above", with 0 for those that are not needed.
-#[derive(Clone, Copy)]
-pub enum Given {
-    TooFew,
-    Nodes { left: u32, right: u32, above: u32 },
-}
-
-// So many nodes, if there are enough. None is taken out: the search goes on in the same words, and when it comes back to the first
-// node that it found it has gone round and none is left. While none is found the first is 0, and there is no node 0.
-pub fn give(free: &[u32], last: usize, count: usize) -> Given
+// So many nodes in the order given, "left, right, then above", with 0 for those that are not needed, "or too few free nodes": none. None
+// is taken out: the search goes on in the same words, and when it comes back to the first node that it found it has gone round and none
+// is left. While none is found the first is 0, and there is no node 0.
+pub fn give(free: &[u32], last: usize, count: usize) -> Option<[u32; 3]>
     requires { (length free.now ≡ word_count) × (count ≤ 3) }
     ensures { (take_numbers count (nodes_of free.now) last ≡ given_by result count) × (count ≡ 0 → left_given result ≡ 0) }
 {
     let mut nodes: [u32; 3] = [0; 3];
     let mut latest = last;
-    let mut i: usize = 0;
-    while i < count {
+    for i in 0..count {
         let Some(m) = next_free(free, latest) else {
-            return Given::TooFew;
+            return None;
         };
         let number = m as u32;
         if number == nodes[0] {
-            return Given::TooFew;
+            return None;
         }
         nodes[i] = number;
         latest = m;
-        i += 1;
     }
-    Given::Nodes {
-        left: nodes[0],
-        right: nodes[1],
-        above: nodes[2],
-    }
+    Some(nodes)
 }
 
 // "nor given for the change in hand": the nodes given are free no longer. The answer is the node given last, then.
@@ -48,11 +36,9 @@ pub fn take(free: &mut [u32], nodes: [u32; 3], count: usize, last: u32) -> u32
     ensures value { result ≡ last_of last (take count nodes) }
 {
     let mut latest = last;
-    let mut i: usize = 0;
-    while i < count {
-        latest = nodes[i];
+    for m in &nodes[..count] {
+        latest = *m;
         card_free::take_out(free, latest as usize);
-        i += 1;
     }
     latest
 }

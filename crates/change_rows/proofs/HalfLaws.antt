@@ -1,5 +1,5 @@
 -- Laws of what two nodes hold together, shared out.
-use mathlib.Core.Path.{◌≡◌, ap, ap₂, sym, ◌∙◌}
+use mathlib.Core.Path.{◌≡◌, ap, ap₂, sym}
 use mathlib.Core.List.{List, ◌++◌, append-nil}
 use mathlib.Core.Bool.{Bool, true, false}
 use Prim.Native.Nat.{ℕ, ◌+◌, ◌-◌, ◌/◌, ◌≤◌, ◌<◌}
@@ -12,7 +12,7 @@ use Rattle.card.specs.Layout.{node_image}
 use Rattle.change_plan.specs.Change.{Together, half, left_keys, key_between, halves}
 use Rattle.change_rows.specs.Nodes.{new_words}
 use Rattle.change_rows.specs.Halves.{together, keys_for, Whole, left_words, right_words, halves_words}
-use Rattle.change_rows.proofs.RowLaws.{take_start, drop_end}
+use Rattle.change_rows.proofs.RowLaws.{drop_end}
 
 pub keys_leaf : (kind v : ℕ) → kind ≡ 1 → v ≡ keys_for kind v
 unfolding keys_for
@@ -74,9 +74,9 @@ whole_counts kind keys beside k w e =
 -- what the code cuts out for the two, and the key between them
 module _ (kind : ℕ) (keys beside : List ℕ) where
   pub left_cut : (k : ℕ) → k ≡ keys_for kind ((length beside + 1) / 2)
-      → node_image kind (take (k - 0) keys) (take ((length beside + 1) / 2 - 0) beside) ≡ left_words (together kind keys beside)
+      → node_image kind (take k keys) (take ((length beside + 1) / 2) beside) ≡ left_words (together kind keys beside)
   unfolding left_words left_keys half keys_for
-  left_cut k e = ap₂ (node_image kind) (take_start k keys ∙ ap (λ (n : ℕ). take n keys) e) (take_start ((length beside + 1) / 2) beside)
+  left_cut k e = ap (λ (n : ℕ). node_image kind (take n keys) (take ((length beside + 1) / 2) beside)) e
 
   pub right_cut : node_image kind
       (take (length keys - (length beside + 1) / 2) (drop ((length beside + 1) / 2) keys))

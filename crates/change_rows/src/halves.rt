@@ -33,7 +33,7 @@ fn write_left(words: &mut [u32], kind: u32, keys: &[u32], beside: &[u32])
 {
     let half = (beside.len() + 1) / 2;
     let taken = keys_for(kind, half);
-    write_node(words, kind, &keys[0..taken], &beside[0..half]);
+    write_node(words, kind, &keys[..taken], &beside[..half]);
 }
 
 // The right of the two.
@@ -41,10 +41,8 @@ fn write_right(words: &mut [u32], kind: u32, keys: &[u32], beside: &[u32])
     requires { (length words.old ≡ 24) × Whole kind keys.now beside.now }
     ensures { words.new ≡ right_words (together kind keys.now beside.now) }
 {
-    let key_end = keys.len();
-    let end = beside.len();
-    let half = (end + 1) / 2;
-    write_node(words, kind, &keys[half..key_end], &beside[half..end]);
+    let from = (beside.len() + 1) / 2;
+    write_node(words, kind, &keys[from..], &beside[from..]);
 }
 
 // The 48 words of the two nodes, at the front of a row: "written left, right, then above".

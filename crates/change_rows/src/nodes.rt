@@ -4,18 +4,14 @@ ghost use Rattle.laws.specs.Lists.{pad};
 ghost use Rattle.card.specs.Layout.{node_image, children, routing_keys};
 ghost use Rattle.change_rows.specs.Nodes.{IsNumber, Numbered, node_places, places_linked};
 
-use crate::words::{clear, copy};
-
 // The places of node m's words.
 pub fn write_places(places: &mut [u32], m: usize)
     requires { (length places.old ≡ 24) × IsNumber m }
     ensures { places.new ≡ node_places m }
 {
     let at = (card::HEADER_WORDS + card::NODE_WORDS * (m - 1)) as u32;
-    let mut i: usize = 0;
-    while i < card::NODE_WORDS {
-        places[i] = at + i as u32;
-        i += 1;
+    for (i, place) in places.iter_mut().enumerate() {
+        *place = at + i as u32;
     }
 }
 
@@ -24,9 +20,9 @@ fn write_row(row: &mut [u32], part: &[u32])
     requires { (length row.old ≡ 11) × (length part.now ≤ 11) }
     ensures { row.new ≡ pad 11 part.now }
 {
-    copy(row, 0, part);
     let used = part.len();
-    clear(&mut row[used..card::SLOTS]);
+    row[..used].copy_from_slice(part);
+    row[used..].fill(0);
 }
 
 // The 24 words of a node: its kind, its keys, what is beside them, and 0.
@@ -45,11 +41,9 @@ pub fn lay_places(places: &mut [u32], nodes: [u32; 3], count: usize, link: usize
     requires { (length places.old ≡ 73) × (count ≤ 3) × Numbered count nodes × (link < 2 ^ 32) }
     ensures { places.new ≡ places_linked (take count nodes) link ++ drop (24 * count + 1) places.old }
 {
-    let mut i: usize = 0;
-    while i < count {
+    for (i, m) in nodes[..count].iter().enumerate() {
         let at = card::NODE_WORDS * i;
-        write_places(&mut places[at..at + card::NODE_WORDS], nodes[i] as usize);
-        i += 1;
+        write_places(&mut places[at..at + card::NODE_WORDS], *m as usize);
     }
     places[card::NODE_WORDS * count] = link as u32;
 }
@@ -69,5 +63,5 @@ pub fn routing_keys(node: &[u32]) -> &[u32]
     ensures { result.now ≡ routing_keys node.now }
 {
     let count = card::child_count(node);
-    &node[1..count]
+    &node[card::KEYS..count]
 }

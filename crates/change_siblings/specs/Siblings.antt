@@ -1,11 +1,10 @@
 -- Document 01, "The changes": what two siblings hold together.
-use Rattle.std.specs.Prelude.{◌≡◌, List, ℕ, ◌≤◌, get_or, take, eqb}
+use Rattle.std.specs.Prelude.{◌≡◌, List, ℕ, get_or, eqb}
 use Rattle.laws.specs.Cases.{pick}
 use Rattle.card.specs.Layout.{kind_of, routing_keys}
 use Rattle.walk.specs.declared.Position.{Position}
 use Rattle.change_decide.specs.Decide.{left_sibling}
 use Rattle.change_decide.specs.Places.{parent_at, left_at, right_at}
-use Rattle.change_rows.specs.Halves.{keys_for}
 use Rattle.change_plan.specs.Change.{Change, Together, leaves_together, inners_together, share, merge, merge_root}
 use Rattle.change_plan.specs.Planning.{first, second, third}
 use Rattle.change_siblings.specs.declared.together.Held.{Held}
@@ -27,10 +26,8 @@ merge_at card p = λ ms. merge p (parent_at card p) (left_sibling p) (together_a
 abbrev pub merge_root_at : List ℕ → Position → List ℕ → Change
 merge_root_at card p = λ ms. merge_root p (parent_at card p) (left_sibling p) (together_at card p) (first ms)
 
--- what the first words of two rows hold, of which kind, with as many keys as go with the values
-pub record HoldsTogether (r : Held) (keys beside : List ℕ) (both : Together) : Type 0 where
+-- what is gathered is what the two hold together
+pub record HoldsTogether (r : Held) (both : Together) : Type 0 where
   pub kind : r.kind ≡ both.kind
-  pub few : r.values ≤ 12
-  pub keyed : r.keys ≡ keys_for r.kind r.values
-  pub keys_held : take r.keys keys ≡ both.keys
-  pub values_held : take r.values beside ≡ both.values
+  pub keys : r.keys ≡ both.keys
+  pub values : r.beside ≡ both.values

@@ -15,11 +15,11 @@ ghost use Rattle.change_decide.specs.Places.{parent_at, together_count, Siblings
 ghost use Rattle.change_plan.specs.Change.{key_between, copied, siblings_cut};
 ghost use Rattle.change_siblings.specs.Siblings.{together_at, share_at, merge_at, merge_root_at};
 
-use card::{NODE_WORDS, THREE_NODES, TWO_NODES};
+use card::{INTERNAL, NODE_WORDS, THREE_NODES, TWO_NODES};
 use change_decide::left_sibling;
 use change_rows::halves::{key_between, write_halves};
 use change_rows::nodes::{children, routing_keys, write_node};
-use change_rows::words::replaced;
+use change_rows::words::Row;
 use together::gather_siblings;
 use walk::Position;
 
@@ -38,12 +38,9 @@ fn copy_parent(card: &[u32], p: Position, keys: &[u32], nodes: [u32; 3], words: 
 {
     let parent = card::node_at(card, p.parent);
     let j = left_sibling(p);
-    let count = keys.len() + 1;
-    let mut routing: [u32; card::MOST_TOGETHER] = [0; card::MOST_TOGETHER];
-    let mut under: [u32; card::MOST_TOGETHER] = [0; card::MOST_TOGETHER];
-    let k = replaced(&mut routing, routing_keys(parent), j, j + 1, keys);
-    let n = replaced(&mut under, children(parent), j, j + 2, &nodes[0..count]);
-    write_node(words, 2, &routing[0..k], &under[0..n]);
+    let routing = Row::replaced(routing_keys(parent), j, j + 1, keys);
+    let under = Row::replaced(children(parent), j, j + 2, &nodes[..keys.len() + 1]);
+    write_node(words, INTERNAL, routing.as_slice(), under.as_slice());
 }
 
 // The nodes that leave the tree where the two siblings are made anew.
@@ -62,13 +59,11 @@ fn lay_halves(card: &[u32], p: Position, values: &mut [u32]) -> u32
     ensures { (values.new ≡ halves_words (together_at card.now p) ++ drop 48 values.old)
         × (result ≡ key_between (together_at card.now p)) }
 {
-    let mut keys: [u32; card::MOST_TOGETHER] = [0; card::MOST_TOGETHER];
-    let mut beside: [u32; card::MOST_TOGETHER] = [0; card::MOST_TOGETHER];
-    let held = gather_siblings(card, p, &mut keys, &mut beside);
-    let k = held.keys;
-    let n = held.values;
-    write_halves(values, held.kind, &keys[0..k], &beside[0..n]);
-    key_between(held.kind, &keys[0..k], &beside[0..n])
+    let held = gather_siblings(card, p);
+    let keys = held.keys.as_slice();
+    let beside = held.beside.as_slice();
+    write_halves(values, held.kind, keys, beside);
+    key_between(held.kind, keys, beside)
 }
 
 // The one node that holds what the siblings hold.
@@ -77,12 +72,8 @@ fn lay_merged(card: &[u32], p: Position, words: &mut [u32])
     ensures { words.new
         ≡ node_image (together_at card.now p).kind (together_at card.now p).keys (together_at card.now p).values }
 {
-    let mut keys: [u32; card::MOST_TOGETHER] = [0; card::MOST_TOGETHER];
-    let mut beside: [u32; card::MOST_TOGETHER] = [0; card::MOST_TOGETHER];
-    let held = gather_siblings(card, p, &mut keys, &mut beside);
-    let k = held.keys;
-    let n = held.values;
-    write_node(words, held.kind, &keys[0..k], &beside[0..n]);
+    let held = gather_siblings(card, p);
+    write_node(words, held.kind, held.keys.as_slice(), held.beside.as_slice());
 }
 
 // "Together 4 or more: shared out .. under a new copy of the parent."
@@ -100,15 +91,8 @@ pub fn lay_merge(card: &[u32], p: Position, nodes: [u32; 3], values: &mut [u32])
     requires { SiblingsAt card.now p × (together_count card.now p < 4) × (length values.old ≡ 73) }
     ensures { values.new ≡ words_laid (merge_at card.now p nodes) values.old }
 {
-    let none = [0];
     lay_merged(card, p, &mut values[0..NODE_WORDS]);
-    copy_parent(
-        card,
-        p,
-        &none[0..0],
-        nodes,
-        &mut values[NODE_WORDS..TWO_NODES],
-    );
+    copy_parent(card, p, &[], nodes, &mut values[NODE_WORDS..TWO_NODES]);
     values[TWO_NODES] = nodes[1];
 }
 

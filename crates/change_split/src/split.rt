@@ -6,16 +6,20 @@ ghost use Rattle.change_rows.specs.Halves.{together, Whole};
 ghost use Rattle.change_plan.specs.Change.{kind_above};
 ghost use Rattle.change_split.specs.Split.{under, split_leaf_of};
 
-use card::{THREE_NODES, TWO_NODES};
+use card::{INTERNAL, LEAF, TAGGED, THREE_NODES, TWO_NODES};
 use change_rows::halves::{key_between, write_halves};
 use change_rows::nodes::write_node;
-use change_rows::pairs::{insert_leaf, insert_pair};
+use change_rows::pairs::SortedPairs;
 
 // "under a tagged node (internal if it is the root)"
 fn kind_above(link: usize) -> u32
     ensures { result ≡ kind_above link }
 {
-    if link == card::ROOT_PLACE { 2 } else { 3 }
+    if link == card::ROOT_PLACE {
+        INTERNAL
+    } else {
+        TAGGED
+    }
 }
 
 // The two, and the one above them with the key between them.
@@ -53,9 +57,8 @@ pub fn lay_split_leaf(
     requires { (length leaf.now ≡ 24) × (length (leaf_pairs leaf.now) ≡ 11) × (length values.old ≡ 73) }
     ensures { (m : ℕ) → values.new ≡ words_laid (split_leaf_of m link key value leaf.now nodes) values.old }
 {
-    let mut keys: [u32; card::MOST_TOGETHER] = [0; card::MOST_TOGETHER];
-    let mut beside: [u32; card::MOST_TOGETHER] = [0; card::MOST_TOGETHER];
-    let held = insert_leaf(&mut keys, &mut beside, 0, leaf);
-    let all = insert_pair(&mut keys, &mut beside, held, key, value);
-    lay_under(link, 1, &keys[0..all], &beside[0..all], nodes, values);
+    let mut pairs = SortedPairs::new();
+    pairs.insert_leaf(leaf);
+    pairs.insert(key, value);
+    lay_under(link, LEAF, pairs.keys(), pairs.values(), nodes, values);
 }

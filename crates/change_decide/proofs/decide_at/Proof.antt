@@ -27,8 +27,8 @@ node_at-parent-requires c κs = search rules
 bounds-parent-0 : tie.Need-bounds-parent-0
 bounds-parent-0 c = omega (arith, parent_words c.before)
 
-returns-then-parent-ne2 : tie.Need-returns-then-parent-ne2
-returns-then-parent-ne2 c = sym (decided_refused _ _ _ (λ e. c.if-parent-ne2.true (ap kind_of c.node_at-parent.ensures ∙ e)))
+returns-then-parent-ne-INTERNAL : tie.Need-returns-then-parent-ne-INTERNAL
+returns-then-parent-ne-INTERNAL c = sym (decided_refused _ _ _ (λ e. c.if-parent-ne-INTERNAL.true (ap kind_of c.node_at-parent.ensures ∙ e)))
 
 node_at-node-requires : tie.Need-node_at-node-requires
 node_at-node-requires c κs = search rules
@@ -48,14 +48,14 @@ returns-then-node-eq-TAGGED c =
     c.decide_tagged.ensures ∙ ap₂ (λ (x y : List ℕ). decide_tagged c.args.p x y)
     c.node_at-parent.ensures c.node_at-node.ensures
     ∙ sym (decided_tagged _ _ _
-    (sym (ap kind_of c.node_at-parent.ensures) ∙ c.if-parent-ne2.false)
+    (sym (ap kind_of c.node_at-parent.ensures) ∙ c.if-parent-ne-INTERNAL.false)
     (sym (ap kind_of c.node_at-node.ensures) ∙ c.if-node-eq-TAGGED.true))
 
 returns-else-node-eq-TAGGED : tie.Need-returns-else-node-eq-TAGGED
 returns-else-node-eq-TAGGED c =
     c.decide_underfull.ensures ∙ ap (decide_underfull c.args.card.now c.args.n c.args.p) c.node_at-parent.ensures
     ∙ sym (decided_underfull _ _ _
-    (sym (ap kind_of c.node_at-parent.ensures) ∙ c.if-parent-ne2.false)
+    (sym (ap kind_of c.node_at-parent.ensures) ∙ c.if-parent-ne-INTERNAL.false)
     (λ e. c.if-node-eq-TAGGED.false (ap kind_of c.node_at-node.ensures ∙ e)))
 
 pub decide_at_spec : {M : Type 1} → statement M
@@ -64,7 +64,7 @@ decide_at_spec =
     (tie.spec
     node_at-parent-requires
     bounds-parent-0
-    returns-then-parent-ne2
+    returns-then-parent-ne-INTERNAL
     node_at-node-requires
     bounds-node-0
     decide_tagged-requires
