@@ -9,13 +9,18 @@ ghost use Rattle.state.specs.Answers.{step_reply, told_depth, start_reply, total
 ghost use Rattle.card_dump.specs.Answer.{told as told_dump};
 ghost use Rattle.card_dump.specs.Answers.{dump_reply};
 ghost use Rattle.walk_next.specs.Successor.{next_reply};
+ghost use Rattle.card.specs.Refusals.{number};
+ghost use Rattle.call_find.specs.Found.{told as found_told};
+ghost use Rattle.walk_next.specs.Next.{told as next_told};
+ghost use Rattle.state.specs.Answer.{told as answer_told};
+ghost use Rattle.state.specs.Begun.{told as begun_told};
+ghost use Rattle.state.specs.Total.{told as total_told};
 ghost use Rattle.c_replies.specs.ReplyWords.{reply_of, kept_depth, ShortDump};
 
-use call_find::Found;
 use card::Refusal;
 use state::block::depth_kept;
-use state::{Answer, Begun, Total};
-use walk_next::Successor;
+use state::{Answer, Begun};
+use walk_next::Pair;
 
 #[repr(C)]
 #[derive(Clone, Copy)]
@@ -61,7 +66,7 @@ fn valued(code: u32, value: u32) -> Reply
     }
 }
 
-// "A refusal gives its number"; the same for every answer that has no value beside it.
+// An answer that has no value beside it.
 fn plain(code: u32) -> Reply
     ensures { reply_of result ≡ plain code }
 {
@@ -92,51 +97,63 @@ pub fn with_depth(reply: Reply, depth: u32) -> Reply
     }
 }
 
-pub fn found_reply(found: Found) -> Reply
-    ensures { reply_of result ≡ found_reply found }
+// "A refusal gives its number".
+fn refused(refusal: Refusal) -> Reply
+    ensures { reply_of result ≡ plain (number refusal) }
+{
+    plain(refusal.number())
+}
+
+#[tactic(auto, unfolding(call_find::specs::Answers::found_reply))]
+pub fn found_reply(found: Result<Option<u32>, Refusal>) -> Reply
+    ensures { reply_of result ≡ found_reply (found_told found) }
 {
     match found {
-        Found::Value(value) => valued(VALUE, value),
-        Found::Absent => plain(ABSENT),
-        Found::Refused(refusal) => plain(refusal),
+        Ok(Some(value)) => valued(VALUE, value),
+        Ok(None) => plain(ABSENT),
+        Err(refusal) => refused(refusal),
     }
 }
 
 // The final answers of an insert or a delete have the depth beside them that the state handed back keeps. It is read for these alone: read
 // before each step it took five instructions of every store.
-pub fn step_reply(answer: Answer, state: &[u32]) -> Reply
-    ensures { reply_of result ≡ with_depth (told_depth (kept_depth state.now) answer) (step_reply answer) }
+#[tactic(auto, unfolding(state::specs::Answers::step_reply, state::specs::Answers::told_depth))]
+pub fn step_reply(answer: Result<Answer, Refusal>, state: &[u32]) -> Reply
+    ensures { reply_of result ≡ with_depth (told_depth (kept_depth state.now) (answer_told answer)) (step_reply (answer_told answer)) }
 {
     match answer {
-        Answer::Stored(place) => valued(STORED, place),
-        Answer::Ready => plain(READY),
-        Answer::Absent => with_depth(plain(ABSENT), depth_kept(state)),
-        Answer::Value(value) => with_depth(valued(VALUE, value), depth_kept(state)),
-        Answer::Refused(refusal) => plain(refusal),
+        Ok(Answer::Stored(place)) => valued(STORED, place),
+        Ok(Answer::Ready) => plain(READY),
+        Ok(Answer::Absent) => with_depth(plain(ABSENT), depth_kept(state)),
+        Ok(Answer::Value(value)) => with_depth(valued(VALUE, value), depth_kept(state)),
+        Err(refusal) => refused(refusal),
     }
 }
 
-pub fn start_reply(begun: Begun) -> Reply
-    ensures { reply_of result ≡ start_reply begun }
+#[tactic(auto, unfolding(state::specs::Answers::start_reply))]
+pub fn start_reply(begun: Result<Begun, Refusal>) -> Reply
+    ensures { reply_of result ≡ start_reply (begun_told begun) }
 {
     match begun {
-        Begun::Idle => plain(IDLE),
-        Begun::Started => plain(STARTED),
-        Begun::Refused(refusal) => plain(refusal),
+        Ok(Begun::Idle) => plain(IDLE),
+        Ok(Begun::Started) => plain(STARTED),
+        Err(refusal) => refused(refusal),
     }
 }
 
 // "One question answers a family's total".
-pub fn total_reply(total: Total) -> Reply
-    ensures { reply_of result ≡ total_reply total }
+#[tactic(auto, unfolding(state::specs::Answers::total_reply))]
+pub fn total_reply(total: Result<u32, Refusal>) -> Reply
+    ensures { reply_of result ≡ total_reply (total_told total) }
 {
     match total {
-        Total::Pairs(pairs) => valued(TOTAL, pairs),
-        Total::Refused(refusal) => plain(refusal),
+        Ok(pairs) => valued(TOTAL, pairs),
+        Err(refusal) => refused(refusal),
     }
 }
 
 // "The answer is the result's length in words or bytes".
+#[tactic(auto, unfolding(card_dump::specs::Answers::dump_reply))]
 pub fn dump_reply(answer: Result<usize, Refusal>) -> Reply
     requires { ShortDump (told_dump answer) }
     ensures { reply_of result ≡ dump_reply (told_dump answer) }
@@ -148,12 +165,13 @@ pub fn dump_reply(answer: Result<usize, Refusal>) -> Reply
 }
 
 // "the pair with the smallest key greater than it, or none"
-pub fn next_reply(successor: Successor) -> Reply
-    ensures { reply_of result ≡ next_reply successor }
+#[tactic(auto, unfolding(walk_next::specs::Successor::next_reply))]
+pub fn next_reply(successor: Result<Option<Pair>, Refusal>) -> Reply
+    ensures { reply_of result ≡ next_reply (next_told successor) }
 {
     match successor {
-        Successor::Pair { key, value } => next(key, value),
-        Successor::Nothing => plain(NONE),
-        Successor::Refused(refusal) => plain(refusal),
+        Ok(Some(pair)) => next(pair.key, pair.value),
+        Ok(None) => plain(NONE),
+        Err(refusal) => refused(refusal),
     }
 }

@@ -31,9 +31,10 @@ use c_replies::{
 pub extern "C" fn ration_find(card: &[u32], key: u32) -> Reply
     ensures { reply_of result ≡ with_depth (find_depth greatest_nodes 1 card.now key) (found_reply (find_of greatest_nodes 1 card.now key)) }
 {
-    let lookup = table::find_with_depth(card, key);
-    let found = lookup.found;
-    with_depth(found_reply(found), lookup.depth as u32)
+    match table::find_with_depth(card, key) {
+        Ok(lookup) => with_depth(found_reply(Ok(lookup.found)), lookup.depth as u32),
+        Err(refusal) => found_reply(Err(refusal)),
+    }
 }
 
 // "It reads the card only, like a find, and may come between steps."
@@ -41,9 +42,10 @@ pub extern "C" fn ration_find(card: &[u32], key: u32) -> Reply
 pub extern "C" fn ration_next(card: &[u32], after: u32) -> Reply
     ensures { reply_of result ≡ with_depth (next_depth greatest_nodes 1 card.now after) (next_reply (next_of greatest_nodes 1 card.now after)) }
 {
-    let next = table::next_with_depth(card, after);
-    let successor = next.successor;
-    with_depth(next_reply(successor), next.depth as u32)
+    match table::next_with_depth(card, after) {
+        Ok(next) => with_depth(next_reply(Ok(next.pair)), next.depth as u32),
+        Err(refusal) => next_reply(Err(refusal)),
+    }
 }
 
 // "Formatting needs no earlier state".
