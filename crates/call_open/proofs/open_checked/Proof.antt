@@ -5,12 +5,12 @@ use Prim.Native.Nat.{ℕ}
 use native.Mathlib.Omega.{arith}
 use lib.ListN.{length, drop, take, length-drop}
 use lib.Seq.{take_all}
+use Rattle.std.specs.Prelude.{Option}
 use Rattle.card.specs.Layout.{search_start}
 use Rattle.card_family.specs.Families.{family_count}
 use Rattle.card_free.specs.NodeSet.{word_count, nodes_of}
 use Rattle.card_check.specs.Check.{findings_of, checked_of}
 use Rattle.card_check.specs.Counting.{table_counted}
-use Rattle.card_check.specs.declared.Checked.{Checked}
 use Rattle.state.specs.Block.{back_at, free_at, totals_at, state_words, part}
 use Rattle.state.specs.Steps.{Handed}
 use Rattle.state.specs.Clauses.{Opened}
@@ -43,8 +43,8 @@ enum_told-1 c = search rules
 refuse_beginning-requires : tie.Need-refuse_beginning-requires
 refuse_beginning-requires c κs = search rules
 
-enum_told-in-Sound : tie.Need-enum_told-in-Sound
-enum_told-in-Sound c = search rules
+enum_told-in-Some : tie.Need-enum_told-in-Some
+enum_told-in-Some c = search rules
 
 slice_bounds-store_totals-count : tie.Need-slice_bounds-store_totals-count
 slice_bounds-store_totals-count c = search rules
@@ -67,28 +67,28 @@ slice_bounds-open_sound-end c = search rules
 open_sound-requires : tie.Need-open_sound-requires
 open_sound-requires c κs = search rules
 
-shape_of-state-in-Unsound : tie.Need-shape_of-state-in-Unsound
-shape_of-state-in-Unsound c = search rules
+shape_of-state-in-None : tie.Need-shape_of-state-in-None
+shape_of-state-in-None c = search rules
 
-returns-in-Unsound : tie.Need-returns-in-Unsound
+returns-in-None : tie.Need-returns-in-None
 unfolding open_checked checked_of
-returns-in-Unsound c =
+returns-in-None c =
     let k = c.check_table in
     let b = c.args.state.now in
     let block = placed free_at word_count b k.new.free in
     opened_from block b _ _ _ (freed_after b k.new.free c.requires.2 k.auto.free)
     (subst (λ (due : Handed). Opened block c.refuse_beginning.new.block c.refuse_beginning.result due)
     (ap (open_checked c.args.n (search_start c.args.card.now) (table_counted c.args.card.now))
-    (sym (ap (λ (r : Checked). checked_of r (findings_of (nodes_of k.new.free) k.new.found)) c.in-Unsound.is)
+    (sym (ap (λ (r : Option ℕ). checked_of r (findings_of (nodes_of k.new.free) k.new.found)) c.in-None.is)
     ∙ k.ensures.0))
     c.refuse_beginning.ensures)
 
-shape_of-state-in-Sound : tie.Need-shape_of-state-in-Sound
-shape_of-state-in-Sound c = search rules
+shape_of-state-in-Some : tie.Need-shape_of-state-in-Some
+shape_of-state-in-Some c = search rules
 
-returns-in-Sound : tie.Need-returns-in-Sound
+returns-in-Some : tie.Need-returns-in-Some
 unfolding open_checked checked_of
-returns-in-Sound c =
+returns-in-Some c =
     let b = c.args.state.now in
     let k = c.check_table in
     let put = c.store_totals.ensures in
@@ -100,14 +100,14 @@ returns-in-Sound c =
     let sixteen : length totals ≡ family_count = omega (arith, ap length all, length-drop 3 found, k.auto.found) in
     let free = ap (λ (x : List ℕ). part x free_at word_count) put ∙ stored_part block totals long sixteen free_at word_count (omega arith)
     ∙ freed_part b k.new.free c.requires.2 k.auto.free in
-    let counted = ap (λ (x : List ℕ). part x totals_at family_count) put ∙ stored_totals block totals long sixteen ∙ all ∙ k.ensures.1 c.in-Sound.field-0 c.in-Sound.is in
+    let counted = ap (λ (x : List ℕ). part x totals_at family_count) put ∙ stored_totals block totals long sixteen ∙ all ∙ k.ensures.1 c.in-Some.field-0 c.in-Some.is in
     let stands = ap (drop back_at) put ∙ stored_after block totals long sixteen ∙ freed_after b k.new.free c.requires.2 k.auto.free in
     let stored = c.store_totals.new.block in
     opened_from stored b _ _ _ stands
     (subst (λ (due : Handed). Opened stored c.open_sound.new.state c.open_sound.result due)
     (ap₂ (λ (row t : List ℕ). open_sound c.args.n (search_start c.args.card.now) t (findings_of (nodes_of row) found)) free counted
     ∙ ap (open_checked c.args.n (search_start c.args.card.now) (table_counted c.args.card.now))
-    (sym (ap (λ (r : Checked). checked_of r (findings_of (nodes_of k.new.free) found)) c.in-Sound.is) ∙ k.ensures.0))
+    (sym (ap (λ (r : Option ℕ). checked_of r (findings_of (nodes_of k.new.free) found)) c.in-Some.is) ∙ k.ensures.0))
     c.open_sound.ensures)
 
 pub open_checked_spec : {M : Type 1} → statement M
@@ -121,7 +121,7 @@ open_checked_spec =
     check_table-requires
     enum_told-1
     refuse_beginning-requires
-    enum_told-in-Sound
+    enum_told-in-Some
     slice_bounds-store_totals-count
     slice_bounds-store_totals-start
     slice_bounds-store_totals-end
@@ -129,7 +129,7 @@ open_checked_spec =
     bounds-card-4
     slice_bounds-open_sound-end
     open_sound-requires
-    shape_of-state-in-Unsound
-    returns-in-Unsound
-    shape_of-state-in-Sound
-    returns-in-Sound)
+    shape_of-state-in-None
+    returns-in-None
+    shape_of-state-in-Some
+    returns-in-Some)
