@@ -14,7 +14,7 @@ ghost use Rattle.state.specs.Clauses.{Opened, OpenCall};
 ghost use Rattle.call_open.specs.Opening.{open_sound, open_checked, open_of};
 
 use card::Refusal;
-use card_check::{Checked, FOUND_WORDS, KEY, RUN, TOTALS, VIOLATED};
+use card_check::{FOUND_WORDS, KEY, RUN, TOTALS, VIOLATED};
 use state::block::{FREE, PLACES, STATE_WORDS, refuse_beginning, store_resting, store_totals};
 use state::{Begun, Doing};
 
@@ -49,8 +49,8 @@ fn open_checked(card: &[u32], n: usize, state: &mut [u32]) -> Result<Begun, Refu
 {
     let mut found: [u32; FOUND_WORDS] = [0; FOUND_WORDS];
     match card_check::check_table(card, n, &mut state[FREE..PLACES], &mut found) {
-        Checked::Unsound => refuse_beginning(state, Refusal::Unsound),
-        Checked::Sound(_) => {
+        None => refuse_beginning(state, Refusal::Unsound),
+        Some(_) => {
             store_totals(state, &found[TOTALS..FOUND_WORDS]);
             open_sound(state, n, card[card::ROOT_PLACE], &found)
         }

@@ -4,8 +4,8 @@ use mathlib.Core.List.{List, [], ◌∷◌, ◌++◌, append-nil}
 use mathlib.Core.Bool.{Bool, true, false, ◌&&◌, ◌||◌, not}
 use Prim.Native.Nat.{ℕ, zero, suc, ◌+◌, ◌-◌, ◌*◌, ◌^◌, ◌≤◌, ◌<◌}
 use native.Mathlib.Omega.{arith}
-use lib.ListN.{length, get_or, set, take, drop, length-append, length-drop, drop_of_length-le}
-use lib.Seq.{take_all}
+use lib.ListN.{length, get_or, set, take, drop, replicate, length-append, length-drop, drop_of_length-le}
+use lib.Seq.{take_all, length-take-le}
 use lib.Dec.{eqb, ltb, leb}
 use borrow.Author.Tests.{ltb-true, leb-true, ne_eqb, eq-eqb}
 use Rattle.std.specs.Prelude.{Option as Answer, Some, None}
@@ -94,6 +94,12 @@ stored_totals [] v key run = refl
 stored_totals (a ∷ []) v key run = refl
 stored_totals (a ∷ b ∷ []) v key run = refl
 stored_totals (a ∷ b ∷ c ∷ found) v key run = refl
+
+-- all lent words become 0
+pub all_cleared : (found part : List ℕ) → length found ≡ 3 + family_count → part ≡ replicate (length (take 19 found)) 0 → part ++ drop 19 found ≡ replicate 19 0
+all_cleared found part l e =
+    let n : length (take 19 found) ≡ 19 = length-take-le 19 found (omega arith) in
+    rw (e, n, drop_of_length-le found {i = 19} (omega arith))
 
 -- ---- a first look at a node
 

@@ -171,6 +171,6 @@ pub fn check_table(card: &[u32], n: usize, free: &mut [u32], found: &mut [u32]) 
     ensures by_index { (h : ℕ) → result ≡ Some h → drop 3 found.new ≡ table_counted card.now }
 {
     card_free::fill(free, n);
-    found.fill(0);
+    found[..FOUND_WORDS].fill(0);
     check_tree(card, n, card[card::ROOT_PLACE] as usize, free, found)
 }

@@ -12,7 +12,7 @@ ghost use Rattle.list_pairs.specs.Listing.{list_table, list_card, list_dump, lay
 ghost use Rattle.list_pairs.specs.Summaries.{summary_of};
 
 use call_repair::open_repaired;
-use card_check::{Checked, FOUND_WORDS, TOTALS};
+use card_check::{FOUND_WORDS, TOTALS};
 use card_family::FAMILIES;
 use pairs::put_pairs;
 use state::Begun;
@@ -65,7 +65,7 @@ fn list_table(card: &[u32], out: &mut [u32], greatest: usize) -> Summary
     }
     let mut unreached: [u32; card_free::WORDS] = [0; card_free::WORDS];
     let mut found: [u32; FOUND_WORDS] = [0; FOUND_WORDS];
-    let Checked::Sound(levels) = card_check::check_table(card, n, &mut unreached, &mut found) else {
+    let Some(levels) = card_check::check_table(card, n, &mut unreached, &mut found) else {
         return refusing(4);
     };
     let free = card_free::count(&unreached);

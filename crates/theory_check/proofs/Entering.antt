@@ -7,6 +7,7 @@ use native.Mathlib.Omega.{arith}
 use lib.ListN.{length, get_or}
 use lib.Dec.{ltb, eqb}
 use borrow.Author.Tests.{ltb-false, le-ltb, eqb-true, eqb-false, ne_eqb, eq-eqb}
+use Rattle.std.specs.Prelude.{Some}
 use Rattle.card.specs.Layout.{node_at, kind_of, key_words, value_words, children, slot_pairs, leaf_pairs}
 use Rattle.laws.specs.Cases.{pick}
 use Rattle.laws.proofs.Cases.{impossible}
@@ -37,12 +38,12 @@ fails true x L a e = absurd (not_bad L a e)
 fails false x L a e = (refl, e)
 
 -- a violation is noted only where none was noted before
-noted_shown : (b : Bool) (entry : Entry) (f : Findings) (key run : ℕ) (L : Look) → Accepted L → noted b entry f key run ≡ L → (b ≡ true → f.violated ≡ false) × (look_of entry (note b key run f) ≡ L)
+noted_shown : (b : Bool) (entry : Entry) (f : Findings) (key run : ℕ) (L : Look) → Accepted L → noted b entry f key run ≡ L → (b ≡ true → f.violated ≡ false) × (look_of (Some entry) (note b key run f) ≡ L)
 unfolding noted
-noted_shown true entry f key run L a e = let p = fails f.violated (look_of entry (note true key run f)) L a e in (λ z. p.0, p.1)
+noted_shown true entry f key run L a e = let p = fails f.violated (look_of (Some entry) (note true key run f)) L a e in (λ z. p.0, p.1)
 noted_shown false entry f key run L a e = (λ z. impossible (cc), e)
 
-noted_accepts : (b : Bool) (entry : Entry) (f : Findings) (key run : ℕ) → (b ≡ true → f.violated ≡ false) → noted b entry f key run ≡ look_of entry (note b key run f)
+noted_accepts : (b : Bool) (entry : Entry) (f : Findings) (key run : ℕ) → (b ≡ true → f.violated ≡ false) → noted b entry f key run ≡ look_of (Some entry) (note b key run f)
 unfolding noted
 noted_accepts true entry f key run h = rw (h refl)
 noted_accepts false entry f key run h = refl

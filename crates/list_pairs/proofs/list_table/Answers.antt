@@ -1,11 +1,10 @@
-use Rattle.std.proofs.Common.{◌≡◌, ap, sym, ◌∙◌, length, refl}
+use Rattle.std.proofs.Common.{◌≡◌, Option, ℕ, ap, sym, ◌∙◌, length, refl}
 use Rattle.card.specs.Header.{nodes_of_length, Sized}
 use Rattle.card.proofs.HeaderLaws.{nodes_sized}
 use Rattle.walk_next.specs.Successor.{walk_from}
 use Rattle.card_free.specs.NodeSet.{nodes_of}
 use Rattle.card_check.specs.Check.{findings_of, checked_of}
 use Rattle.card_check.specs.Counting.{table_counted}
-use Rattle.card_check.specs.declared.Checked.{Checked}
 use Rattle.list_pairs.specs.Listing.{most_pairs, Listing, listed, list_table}
 use Rattle.list_pairs.proofs.SummaryLaws.{summary_refused, table_none, table_unsound, table_sound, summary_listed}
 use Rattle.list_pairs.proofs.list_table.Goals as goal
@@ -29,7 +28,7 @@ unfolding checked_of
 returns-in_default c =
     let e = c.nodes_of-n.ensures in
     let k = c.check_table in
-    let none_found = sym k.ensures.found_after ∙ ap (λ (r : Checked). checked_of r (findings_of (nodes_of k.new.free) k.new.found)) c.in_default.is in
+    let none_found = sym k.ensures.found_after ∙ ap (λ (r : Option ℕ). checked_of r (findings_of (nodes_of k.new.free) k.new.found)) c.in_default.is in
     let told = summary_refused 4 (list_table c.args.greatest c.args.card.now (nodes_of_length c.args.greatest (length c.args.card.now))) c.args.out.now
     (ap (list_table c.args.greatest c.args.card.now) (sym e)
     ∙ table_unsound c.args.greatest c.args.card.now c.nodes_of-n.result c.if-n-eq0.false none_found) in
@@ -42,11 +41,11 @@ returns c =
     let k = c.check_table in
     let t = c.totals_found-families in
     let q = c.put_pairs-words in
-    let levels = c.in-Sound.levels in
+    let levels = c.in-Some.levels in
     let card = c.args.card.now in
     let f = findings_of (nodes_of k.new.free) k.new.found in
-    let found = sym k.ensures.found_after ∙ ap (λ (r : Checked). checked_of r f) c.in-Sound.is in
-    let counted : t.result ≡ table_counted card = t.ensures ∙ k.ensures.by_index levels c.in-Sound.is in
+    let found = sym k.ensures.found_after ∙ ap (λ (r : Option ℕ). checked_of r f) c.in-Some.is in
+    let counted : t.result ≡ table_counted card = t.ensures ∙ k.ensures.by_index levels c.in-Some.is in
     let x : Listing = record { nodes = n.result; free = c.count-free.result; levels = levels; families = t.result; pairs = walk_from c.args.greatest 1 most_pairs card 0 } in
     let is : list_table c.args.greatest card (nodes_of_length c.args.greatest (length card)) ≡ listed x =
     ap (list_table c.args.greatest card) (sym n.ensures)
