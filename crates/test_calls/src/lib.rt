@@ -20,6 +20,14 @@ pub fn first_words(words: &mut Words, n: usize) -> &mut [u32] {
     &mut words[..n.min(MOST)]
 }
 
+// A copy of a card, in a row of its own.
+pub fn copy_of<'a>(card: &[u32], row: &'a mut Words) -> &'a mut [u32] {
+    let n = card.len().min(MOST);
+    let copy = &mut row[..n];
+    copy.copy_from_slice(&card[..n]);
+    copy
+}
+
 // What opening answers, where the state is not needed.
 pub fn opening_answer(card: &[u32]) -> Begun {
     table::open(card, &mut [0; STATE_WORDS])
