@@ -6,63 +6,17 @@
 mod book;
 mod cuts;
 mod leaf;
+mod lists;
 mod refusals;
 mod trial;
 mod update_lists;
 
+use lists::{LISTS, List};
 use std::alloc::AllocError;
 use std::io;
 use table::{Begun, STATE_WORDS};
 use test_calls::{Block, Words, copy_of, first_words};
-use trial::{List, Trial, count};
-
-// Keys that lie all over: an odd number, so that no two of a range are one.
-const SPREAD: u32 = 2654435761;
-
-const LISTS: [List; 6] = [
-    List {
-        nodes: 4,
-        range: 14,
-        turns: 8000,
-        scale: 1,
-        chance: 1,
-    },
-    List {
-        nodes: 5,
-        range: 14,
-        turns: 8000,
-        scale: 1,
-        chance: 1,
-    },
-    List {
-        nodes: 6,
-        range: 24,
-        turns: 20000,
-        scale: 1,
-        chance: 1,
-    },
-    List {
-        nodes: 12,
-        range: 60,
-        turns: 40000,
-        scale: SPREAD,
-        chance: 1,
-    },
-    List {
-        nodes: 60,
-        range: 320,
-        turns: 50000,
-        scale: SPREAD,
-        chance: 8,
-    },
-    List {
-        nodes: 600,
-        range: 3000,
-        turns: 50000,
-        scale: 1,
-        chance: 400,
-    },
-];
+use trial::{Trial, count};
 
 impl Trial {
     // A step of formatting; whether they go on. The card is not formatted until the last store, and opening says so.

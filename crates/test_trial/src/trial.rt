@@ -1,33 +1,8 @@
 // What is kept from call to call, beside the card and its state.
 use crate::book::Book;
+use crate::lists::List;
 use std::alloc::Global;
 use test_calls::random::Random;
-
-// A list of so many turns at N nodes, with keys from a range, each multiplied by a number, and one of so many steps tried with a cut.
-#[derive(Clone, Copy, Default)]
-pub struct List {
-    pub nodes: u16,
-    pub range: u32,
-    pub turns: u32,
-    pub scale: u32,
-    pub chance: u32,
-}
-
-impl List {
-    // How many words its card has.
-    pub fn length(&self) -> usize {
-        8 + 24 * usize::from(self.nodes)
-    }
-
-    // The key number i of the range, from 1 on; the last is the greatest key there is.
-    pub fn key(&self, i: u32) -> u32 {
-        if i == self.range {
-            u32::MAX
-        } else {
-            i.wrapping_mul(self.scale)
-        }
-    }
-}
 
 #[derive(Default, Drop)]
 pub struct Counts {
