@@ -1,4 +1,4 @@
-// The stream of operations on standard input.
+// The stream of operations on standard input. It is read by the crate `io`, into a buffer of fixed size: std's `BufReader` takes the heap.
 
 #[derive(Drop)]
 pub struct Stream {

@@ -5,10 +5,9 @@ type Node = [u32; NODE_WORDS];
 
 // "node m begins at word 8 + 24 × (m − 1)"
 fn node(card: &[u32], m: u32) -> Option<&Node> {
-    let above = u64::from(m).checked_sub(1)?;
-    let (_, nodes) = card.split_at_checked(8)?;
-    let (nodes, _) = nodes.as_chunks();
-    nodes.get(above as usize)
+    let before = m.checked_sub(1)?;
+    let (nodes, _) = card.get(8..)?.as_chunks();
+    nodes.get(before as usize)
 }
 
 // The child of an internal node that a key takes.

@@ -45,14 +45,11 @@ impl Trial {
     pub fn refused_call(&mut self, card: &mut [u32], state: &mut Block, which: u32) {
         let is_idle = self.book.hand.is_none();
         let key = self.any_key();
-        if which == 0 {
-            self.expect_of_find(6, card, 0);
-        } else if is_idle && which == 1 {
-            self.expect_of_step(10, card, state);
-        } else if is_idle {
-            self.expect_of_starts(6, card, state, 0);
-        } else {
-            self.expect_of_starts(7, card, state, key);
+        match (which, is_idle) {
+            (0, _) => self.expect_of_find(6, card, 0),
+            (1, true) => self.expect_of_step(10, card, state),
+            (_, true) => self.expect_of_starts(6, card, state, 0),
+            (_, false) => self.expect_of_starts(7, card, state, key),
         }
     }
 
