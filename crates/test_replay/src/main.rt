@@ -28,12 +28,7 @@ impl Replay {
     fn new() -> Self {
         Replay {
             stream: Stream::new(),
-            trace: Trace {
-                number: 0,
-                length: 0,
-                stores: 0,
-                hash: 0,
-            },
+            trace: Trace::default(),
             dump: Dump::new(),
             state: [0; STATE_WORDS],
         }
@@ -78,7 +73,7 @@ impl Replay {
         self.trace.feed_store(place, word);
     }
 
-    // A step, with the card before it. Last a 0 where it changed no word but the one it stored.
+    // A step, with the card before it; last a 0 where it changed no word but the one it stored, else a 1.
     fn step(&mut self, card: &mut [u32], old: &mut [u32]) {
         let depth = u64::from(table::depth_kept(&self.state));
         match table::step(card, &mut self.state) {
@@ -145,8 +140,7 @@ impl Replay {
         self.trace = Trace {
             number: self.trace.number.wrapping_add(1),
             length: 8 + 24 * self.stream.next_number() as usize,
-            stores: 0,
-            hash: 0,
+            ..Trace::default()
         };
         test_calls::lose(&mut self.state);
     }
@@ -174,7 +168,7 @@ impl Replay {
         self.set_word(words, place);
     }
 
-    // One operation of the stream, by its number there.
+    // One operation of the stream, by its number there. An enum would only name each arm's call a second time.
     fn turn(&mut self, words: &mut Words, kind: u32) {
         match kind {
             1 => self.new_card(words),
@@ -184,7 +178,7 @@ impl Replay {
             5 => self.feed_card(words),
             6 => self.feed_end(words),
             7 => self.call_on_copy(words),
-            0..14 => self.call_on_card(words, kind),
+            8..14 => self.call_on_card(words, kind),
             14 => self.dump.begin(&mut self.stream),
             15 => self.dump.set_bytes(&mut self.stream),
             16 => self.dump.read(&mut self.stream, &mut self.trace),

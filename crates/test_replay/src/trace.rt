@@ -2,7 +2,7 @@
 use card_dump::Answer as DumpAnswer;
 use table::{Begun, Found, Lookup};
 
-#[derive(Clone, Copy)]
+#[derive(Clone, Copy, Default)]
 pub struct Trace {
     pub number: u32,
     // the words of its card
