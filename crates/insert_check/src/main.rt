@@ -10,15 +10,15 @@ use std::io::Read;
 use std::rt::Files;
 
 // Reads until the bytes are full, the file ends or a read fails, and answers how many bytes it put at their start.
+// By hand: the library reads to a file's end only into the heap, and `read_exact` fails at a shorter file without saying how many.
 fn read_full(file: &mut impl Read, bytes: &mut [u8]) -> usize
     ensures { result ≤ length bytes.new }
 {
     let mut done: usize = 0;
     while done < bytes.len() {
         match file.read(&mut bytes[done..]) {
-            Ok(0) => break,
+            Ok(0) | Err(_) => break,
             Ok(n) => done += n,
-            Err(_) => break,
         }
     }
     done

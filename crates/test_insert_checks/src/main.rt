@@ -9,30 +9,20 @@ const CASE: usize = 2688;
 
 const CASES: usize = 24;
 
-fn wide(byte: u8) -> usize {
-    byte as usize
-}
-
-// Case k, where it is there.
-fn check(bytes: &[u8; 65536], k: usize) {
-    let all: &[u8] = bytes;
-    if k < CASES {
-        let from = CASE * k;
-        let end = from + DUMP;
-        let file = end + 1;
-        let to = file + wide(bytes[end]) % 128;
-        if to <= all.len() {
-            reason_text::print_check(&all[from..end], &all[file..to]);
-        }
-    }
+fn check(case: &[u8; CASE]) {
+    let (dump, rest) = case.split_at(DUMP);
+    let [length, file @ ..] = rest else {
+        return;
+    };
+    let n = usize::from(*length % 128);
+    reason_text::print_check(dump, &file[..n]);
 }
 
 fn main() {
     let mut bytes = io::large_buffer();
     io::read_full(0, &mut bytes);
-    let mut k: usize = 0;
-    while k < CASES {
-        check(&bytes, k);
-        k += 1;
+    let (cases, _) = bytes.as_chunks();
+    for case in cases.iter().take(CASES) {
+        check(case);
     }
 }

@@ -3,62 +3,40 @@
 #![tactic(auto)]
 
 use call_record::Fetched;
+use std::io;
+use std::io::Write;
 
 // A card of 4 nodes whose one leaf holds rations 1 to 6, their offsets beside them.
 fn card_of_six() -> [u32; 104] {
-    let mut card = [0u32; 104];
-    card[0] = 1;
-    card[1] = 4;
-    card[2] = 8;
-    card[3] = 24;
-    card[4] = 1;
-    card[8] = 1;
-    card[9] = 1;
-    card[10] = 2;
-    card[11] = 3;
-    card[12] = 4;
-    card[13] = 5;
-    card[14] = 6;
-    card[20] = 0;
-    card[21] = 5;
-    card[22] = 12;
-    card[23] = 13;
-    card[24] = 16;
-    card[25] = 4294967295;
+    let mut card = [0; 104];
+    card[..5].copy_from_slice(&[1, 4, 8, 24, 1]);
+    card[8..15].copy_from_slice(&[1, 1, 2, 3, 4, 5, 6]);
+    card[20..26].copy_from_slice(&[0, 5, 12, 13, 16, u32::MAX]);
     card
 }
 
+// The record of a ration; empty where there is none.
+fn record<'a>(card: &[u32], key: u32, block: &'a [u8]) -> &'a [u8] {
+    call_record::fetch_record(card, card::FIRST_LINE, key, block, card::GREATEST_NODES)
+}
+
 // What there is for a ration.
-fn say(card: &[u32], key: u32, block: &[u8]) {
-    io::write_all(1, b"ration ");
-    io::print_decimal(1, key as u64);
+fn say(rt: &impl Print, card: &[u32], key: u32, block: &[u8]) -> io::Result<()> {
+    print!(rt; "ration {key}: ")?;
     match call_record::is_fetched(card, card::FIRST_LINE, key, block, card::GREATEST_NODES) {
-        Fetched::Found => {
-            io::write_all(1, b": ");
-            io::write_all(
-                1,
-                call_record::fetch_record(card, card::FIRST_LINE, key, block, card::GREATEST_NODES),
-            );
-        }
-        Fetched::Absent => {
-            io::write_all(1, b": absent");
-        }
-        Fetched::Refused(refusal) => {
-            io::write_all(1, b": refused ");
-            io::print_decimal(1, refusal as u64);
-        }
+        Fetched::Found => io::writer(rt).write_all(record(card, key, block))?,
+        Fetched::Absent => print!(rt; "absent")?,
+        Fetched::Refused(refusal) => print!(rt; "refused {refusal}")?,
     }
-    io::write_all(1, b"\n");
+    println!(rt)
 }
 
 // Two records, a length 0, and a length that runs past the end; a ration that the card does not hold.
-fn say_all(card: &[u32]) {
-    let block = b"\x04mash\x06grower\x00\x09ab";
-    let mut key: u32 = 0;
-    while key < 8 {
-        say(card, key, block);
-        key += 1;
+fn say_all(rt: &impl Print, card: &[u32]) -> io::Result<()> {
+    for key in 0..8 {
+        say(rt, card, key, b"\x04mash\x06grower\x00\x09ab")?;
     }
+    Ok(())
 }
 
 // The longest record, which ends where the block ends.
@@ -70,34 +48,32 @@ fn longest() -> [u8; 256] {
 }
 
 // A whole card's record in a short block.
-fn say_short(card: &[u32; 104], key: u32) {
-    say(card, key, b"\x04mash");
+fn say_short(rt: &impl Print, card: &[u32], key: u32) -> io::Result<()> {
+    say(rt, card, key, b"\x04mash")
 }
 
 // The find's own refusals: the card's length, mark, header, and a root that is no node; key 0 before the root.
-fn say_refused(whole: [u32; 104]) {
-    let mut card = whole;
-    say(&card[0..103], 1, b"\x04mash");
+fn say_refused(rt: &impl Print, mut card: [u32; 104]) -> io::Result<()> {
+    say_short(rt, &card[0..103], 1)?;
     card[0] = 0;
-    say_short(&card, 1);
+    say_short(rt, &card, 1)?;
     card[0] = 1;
     card[2] = 9;
-    say_short(&card, 1);
+    say_short(rt, &card, 1)?;
     card[2] = 8;
     card[4] = 0;
-    say_short(&card, 1);
-    say_short(&card, 0);
+    say_short(rt, &card, 1)?;
+    say_short(rt, &card, 0)
 }
 
-fn main() {
+fn main(rt: HostRuntime) -> io::Result<()> {
     let card = card_of_six();
-    say_all(&card);
+    say_all(&rt, &card)?;
     // a record that ends where the block ends, and the same block without its last byte
-    say(&card, 2, b"\x04mash\x06grower");
-    say(&card, 2, b"\x04mash\x06growe");
-    let block = longest();
-    say(&card, 1, &block);
+    say(&rt, &card, 2, b"\x04mash\x06grower")?;
+    say(&rt, &card, 2, b"\x04mash\x06growe")?;
+    say(&rt, &card, 1, &longest())?;
     // no bytes at all
-    say(&card, 1, b"");
-    say_refused(card);
+    say(&rt, &card, 1, b"")?;
+    say_refused(&rt, card)
 }

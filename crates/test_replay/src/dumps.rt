@@ -1,122 +1,82 @@
-// The dump, read, write and list lines of the traces (document 01, "Dumps and the list program").
+// The dump in hand, and the dump, read, write and list lines of the traces (document 01, "Dumps and the list program").
 use crate::crc;
-use crate::stream::{DUMP, LENGTH, feed, feed_two, next_byte, next_number};
+use crate::stream::Stream;
+use crate::trace::Trace;
+use card::GREATEST_NODES;
 use card_dump::Answer;
-use list_text::Text;
-use test_calls::{Words, wide};
+use test_calls::Words;
 
 // One block of 512 bytes more than the longest dump has.
-pub type Bytes = [u8; 58368];
-
 const MOST: usize = 58368;
 
-// Sets a byte; past the end nothing is set.
-fn set_byte(bytes: &mut Bytes, i: usize, value: u64) {
-    if i < MOST {
-        bytes[i] = (value % 256) as u8;
+#[derive(Drop)]
+pub struct Dump {
+    bytes: [u8; MOST],
+    length: usize,
+}
+
+impl Dump {
+    pub fn new() -> Self {
+        Dump {
+            bytes: [0; MOST],
+            length: 0,
+        }
+    }
+
+    // Another dump: so many bytes, all 0.
+    pub fn begin(&mut self, stream: &mut Stream) {
+        self.length = stream.next_number() as usize;
+        self.bytes.fill(0);
+    }
+
+    // Some of its bytes from a place on; past the end nothing is set.
+    pub fn set_bytes(&mut self, stream: &mut Stream) {
+        let at = stream.next_number() as usize;
+        let count = stream.next_number() as usize;
+        for i in at..at + count {
+            let value = stream.next_byte();
+            if let Some(byte) = self.bytes.get_mut(i) {
+                *byte = value;
+            }
+        }
+    }
+
+    // Reads it over the first n words; None where there are fewer.
+    fn read_over(&self, lent: &mut Words, n: usize) -> Option<Answer> {
+        let dump = self.bytes.get(..self.length)?;
+        let words = lent.get_mut(..n)?;
+        Some(card_dump::read_dump(dump, words, GREATEST_NODES))
+    }
+
+    pub fn read(&self, stream: &mut Stream, trace: &mut Trace) {
+        let n = stream.next_number() as usize;
+        let mut lent = [7; test_calls::MOST];
+        let answer = self.read_over(&mut lent, n);
+        trace.feed_lent(11, answer, crc::of_words(&lent[..n.min(test_calls::MOST)]));
+    }
+
+    // The text that `list` prints for it.
+    pub fn list(&self, trace: &mut Trace) {
+        let mut text = [0; list_text::TEXT_BYTES];
+        let n = match self.bytes.get(..self.length) {
+            Some(dump) => list_text::list_text(dump, &mut text),
+            None => 0,
+        };
+        trace.feed_all(&[13, n as u64]);
+        trace.feed(u64::from(crc::of_bytes(&text[..n.min(list_text::TEXT_BYTES)])));
     }
 }
 
-// A dump in hand: so many bytes, all 0.
-fn new_dump(bytes: &mut Bytes, input: &mut [u8; 4096], row: &mut [u64; 8]) {
-    row[DUMP] = next_number(input, row);
-    let mut i: usize = 0;
-    while i < MOST {
-        set_byte(bytes, i, 0);
-        i += 1;
-    }
+// Writes the card that the first `size` words are over the first n bytes; None where there are fewer.
+fn write_over(words: &Words, size: usize, lent: &mut [u8], n: usize) -> Option<Answer> {
+    let card = words.get(..size)?;
+    let bytes = lent.get_mut(..n)?;
+    Some(card_dump::write_dump(card, bytes, GREATEST_NODES))
 }
 
-// Some of its bytes from a place on.
-fn set_bytes(bytes: &mut Bytes, input: &mut [u8; 4096], row: &mut [u64; 8]) {
-    let mut at = next_number(input, row);
-    let mut left = next_number(input, row);
-    while left > 0 {
-        let value = next_byte(input, row);
-        set_byte(bytes, at as usize, value);
-        at = at % 4294967296 + 1;
-        left -= 1;
-    }
-}
-
-// What a read or a write answered, by its number, and the CRC of the lent slice afterwards.
-fn feed_lent(row: &mut [u64; 8], tag: u64, answer: Answer, crc: u32) {
-    match answer {
-        Answer::Length(n) => feed_two(row, tag, n as u64),
-        Answer::Refused(r) => feed_two(row, 1, wide(r)),
-    }
-    feed(row, wide(crc));
-}
-
-// The first `size` bytes read over the first n words. No trace asks for more than there are; refusal 0, which document 01 does not
-// have, would show it.
-fn read_within(bytes: &[u8], size: usize, lent: &mut [u32], n: usize) -> Answer {
-    if bytes.len() < size {
-        return Answer::Refused(0);
-    }
-    if lent.len() < n {
-        return Answer::Refused(0);
-    }
-    card_dump::read_dump(&bytes[0..size], &mut lent[0..n], card::GREATEST_NODES)
-}
-
-// The same of the first `size` words written over the first n bytes.
-fn write_within(words: &[u32], size: usize, lent: &mut [u8], n: usize) -> Answer {
-    if words.len() < size {
-        return Answer::Refused(0);
-    }
-    if lent.len() < n {
-        return Answer::Refused(0);
-    }
-    card_dump::write_dump(&words[0..size], &mut lent[0..n], card::GREATEST_NODES)
-}
-
-fn read(bytes: &Bytes, input: &mut [u8; 4096], row: &mut [u64; 8]) {
-    let n = next_number(input, row) as usize;
-    let mut lent = [7u32; test_calls::MOST];
-    let answer = read_within(bytes, row[DUMP] as usize, &mut lent, n);
-    feed_lent(row, 11, answer, crc::of_words(&lent, n));
-}
-
-fn write(words: &Words, input: &mut [u8; 4096], row: &mut [u64; 8]) {
-    let n = next_number(input, row) as usize;
-    let mut lent = [7u8; 58368];
-    let answer = write_within(words, row[LENGTH] as usize, &mut lent, n);
-    feed_lent(row, 12, answer, crc::of_bytes(&lent, n));
-}
-
-// The text that `list` prints for the first `size` bytes.
-fn list_within(bytes: &[u8], size: usize, text: &mut Text) -> usize {
-    if bytes.len() < size {
-        return 0;
-    }
-    list_text::list_text(&bytes[0..size], text)
-}
-
-fn feed_text(text: &Text, n: usize, row: &mut [u64; 8]) {
-    feed_two(row, 13, n as u64);
-    feed(row, wide(crc::of_bytes(text, n)));
-}
-
-fn list(bytes: &Bytes, row: &mut [u64; 8]) {
-    let mut text = [0u8; list_text::TEXT_BYTES];
-    let n = list_within(bytes, row[DUMP] as usize, &mut text);
-    feed_text(&text, n, row);
-}
-
-// One operation on the dump in hand, or on the card and a new dump.
-pub fn dump_turn(
-    words: &Words,
-    bytes: &mut Bytes,
-    input: &mut [u8; 4096],
-    row: &mut [u64; 8],
-    kind: u64,
-) {
-    match kind {
-        14 => new_dump(bytes, input, row),
-        15 => set_bytes(bytes, input, row),
-        16 => read(bytes, input, row),
-        17 => write(words, input, row),
-        _ => list(bytes, row),
-    }
+pub fn write(words: &Words, stream: &mut Stream, trace: &mut Trace) {
+    let n = stream.next_number() as usize;
+    let mut lent = [7; MOST];
+    let answer = write_over(words, trace.length, &mut lent, n);
+    trace.feed_lent(12, answer, crc::of_bytes(&lent[..n.min(MOST)]));
 }

@@ -1,125 +1,84 @@
 // Cuts: the card is opened anew and repaired, and what it holds is compared with the book.
-use crate::places::{CALLS, CUTS, LENGTH, MORE, RANGE, STEPS, wrong_if};
-use crate::{book, keys};
+use crate::trial::{Trial, count};
 use table::{Answer, Begun, Found};
-use test_calls::random::count;
-use test_calls::{Block, Words, random};
+use test_calls::Block;
 
-// Whether a call was refused with a number.
-pub fn is_refused(begun: Begun, number: u32) -> bool {
-    match begun {
-        Begun::Refused(r) => r == number,
-        Begun::Idle => false,
-        Begun::Started => false,
+impl Trial {
+    // A find of a key, compared with the book.
+    fn compare(&mut self, card: &[u32], key: u32) {
+        count(&mut self.counts.calls);
+        let held = self.book.value(key);
+        let is_wrong = match table::find(card, key) {
+            Found::Value(value) => held != Some(value),
+            Found::Absent => held.is_some(),
+            Found::Refused(_) => true,
+        };
+        self.wrong_if(is_wrong);
     }
-}
 
-// Whether what a find answered is not what the book, in which n places are looked at, has for the key.
-fn is_other(book: &Words, n: usize, key: u32, found: Found) -> bool {
-    let at = book::place_of(book, n, key);
-    match found {
-        Found::Value(v) => n <= at || v != book::value_at(book, at),
-        Found::Absent => at < n,
-        Found::Refused(_) => true,
+    pub fn compare_one(&mut self, card: &[u32]) {
+        let key = self.any_key();
+        self.compare(card, key);
     }
-}
 
-// A find of a key, compared with the book.
-fn compare(card: &Words, book: &Words, row: &mut [u64; 32], key: u32) {
-    count(row, CALLS);
-    let found = test_calls::find(card, row[LENGTH] as usize, key);
-    let is_wrong = is_other(book, row[RANGE] as usize, key, found);
-    wrong_if(row, is_wrong);
-}
-
-pub fn compare_one(card: &Words, book: &Words, row: &mut [u64; 32]) {
-    let key = keys::key(row);
-    compare(card, book, row, key);
-}
-
-// Every key of the range, compared with the book.
-fn compare_all(card: &Words, book: &Words, row: &mut [u64; 32]) {
-    let mut left = row[RANGE];
-    while left > 0 {
-        let key = keys::key_of(row, left);
-        compare(card, book, row, key);
-        left -= 1;
-    }
-}
-
-// What opening a card that a cut left handed back; MORE says whether there is a repair.
-fn opened(row: &mut [u64; 32], begun: Begun) {
-    count(row, CUTS);
-    count(row, CALLS);
-    match begun {
-        Begun::Idle => {
-            row[MORE] = 0;
-        }
-        Begun::Started => {
-            row[MORE] = 1;
-        }
-        Begun::Refused(_) => {
-            row[MORE] = 0;
-            wrong_if(row, true);
+    // Every key of the range, compared with the book.
+    fn compare_all(&mut self, card: &[u32]) {
+        let list = self.list;
+        for i in (1..=list.range).rev() {
+            self.compare(card, list.key(i));
         }
     }
-}
 
-fn open(card: &Words, row: &mut [u64; 32], state: &mut Block) {
-    let begun = test_calls::open(card, row[LENGTH] as usize, state);
-    opened(row, begun);
-}
+    // Opens a card that a cut left; whether there is a repair.
+    fn open(&mut self, card: &[u32], state: &mut Block) -> bool {
+        count(&mut self.counts.cuts);
+        count(&mut self.counts.calls);
+        let begun = table::open(card, state);
+        self.wrong_if(matches!(begun, Begun::Refused(_)));
+        matches!(begun, Begun::Started)
+    }
 
-// What a step answered of a repair or of formatting, which store words until one gives "ready".
-pub fn until_ready(row: &mut [u64; 32], answer: Answer) {
-    count(row, STEPS);
-    match answer {
-        Answer::Stored(_) => {}
-        Answer::Ready => {
-            row[MORE] = 0;
+    // Makes a step of a repair or of formatting, which store words until one gives "ready"; whether they go on.
+    pub fn step_until_ready(&mut self, card: &mut [u32], state: &mut Block) -> bool {
+        count(&mut self.counts.steps);
+        let answer = table::step(card, state);
+        self.wrong_if(!matches!(answer, Answer::Stored(_) | Answer::Ready));
+        !matches!(answer, Answer::Ready)
+    }
+
+    // A step of a repair, or now and then another cut; whether there is more of the repair.
+    fn repair_step(&mut self, card: &mut [u32], state: &mut Block) -> bool {
+        if self.random.below(100) == 0 {
+            return self.open(card, state);
         }
-        Answer::Absent => wrong_if(row, true),
-        Answer::Value(_) => wrong_if(row, true),
-        Answer::Refused(_) => wrong_if(row, true),
+        if self.random.below(16) == 0 {
+            self.compare_one(card);
+        }
+        self.step_until_ready(card, state)
     }
-}
 
-// A step of a repair, or now and then another cut.
-fn repair_step(card: &mut Words, book: &Words, row: &mut [u64; 32], state: &mut Block) {
-    if random::below(row, 100) == 0 {
-        return open(card, row, state);
+    // The table is balanced: opening hands back an idle state.
+    fn expect_idle(&mut self, card: &[u32]) {
+        count(&mut self.counts.calls);
+        self.wrong_if(!matches!(test_calls::opening_answer(card), Begun::Idle));
     }
-    if random::below(row, 16) == 0 {
-        compare_one(card, book, row);
-    }
-    let answer = test_calls::step(card, row[LENGTH] as usize, state);
-    until_ready(row, answer);
-}
 
-// The table is balanced: opening hands back an idle state.
-fn expect_idle(card: &Words, row: &mut [u64; 32]) {
-    count(row, CALLS);
-    match test_calls::opening_answer(card, row[LENGTH] as usize) {
-        Begun::Idle => {}
-        Begun::Started => wrong_if(row, true),
-        Begun::Refused(_) => wrong_if(row, true),
+    // Opens the card, and makes the repair after a cut, which ends.
+    fn repair(&mut self, card: &mut [u32], state: &mut Block) {
+        let mut goes_on = self.open(card, state);
+        for _ in 0..100000 {
+            if !goes_on {
+                return;
+            }
+            goes_on = self.repair_step(card, state);
+        }
+        self.wrong_if(true);
     }
-}
 
-// The repair after a cut, which ends.
-fn repair(card: &mut Words, book: &Words, row: &mut [u64; 32], state: &mut Block) {
-    let mut left: u64 = 100000;
-    while left > 0 && row[MORE] == 1 {
-        repair_step(card, book, row, state);
-        left -= 1;
+    // A cut: opening does not refuse, the repair ends, the map is the book's, and the table is balanced.
+    pub fn cut(&mut self, card: &mut [u32], state: &mut Block) {
+        self.repair(card, state);
+        self.compare_all(card);
+        self.expect_idle(card);
     }
-    wrong_if(row, left == 0);
-}
-
-// A cut: opening does not refuse, the repair ends, the map is the book's, and the table is balanced.
-pub fn cut(card: &mut Words, book: &Words, row: &mut [u64; 32], state: &mut Block) {
-    open(card, row, state);
-    repair(card, book, row, state);
-    compare_all(card, book, row);
-    expect_idle(card, row);
 }

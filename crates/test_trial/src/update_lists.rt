@@ -1,241 +1,150 @@
 // Starts and steps of updates, each answer compared with the book, and calls that are refused.
-use crate::cuts::is_refused;
-use crate::places::{
-    CALLS, ENTERED, FULL, HAND, HELD, KEY, LENGTH, NODES, RANGE, REFUSED, STEPS, TAKEN, VALUE,
-    WAS_HELD, wrong_if,
-};
-use crate::{book, keys};
-use table::{Answer, Begun, Found};
-use test_calls::random::count;
-use test_calls::{Block, Words, narrow, random, wide};
-
-fn as_number(b: bool) -> u64 {
-    if b { 1 } else { 0 }
-}
-
-// Whether a step was refused with a number.
-fn is_step_refused(answer: Answer, number: u32) -> bool {
-    match answer {
-        Answer::Refused(r) => r == number,
-        Answer::Stored(_) => false,
-        Answer::Ready => false,
-        Answer::Absent => false,
-        Answer::Value(_) => false,
-    }
-}
-
-fn is_find_refused(found: Found, number: u32) -> bool {
-    match found {
-        Found::Refused(r) => r == number,
-        Found::Value(_) => false,
-        Found::Absent => false,
-    }
-}
-
-// A call that has to be refused.
-fn expect(row: &mut [u64; 32], is_refused: bool) {
-    count(row, CALLS);
-    count(row, REFUSED);
-    wrong_if(row, !is_refused);
-}
-
-// Each call on the first n words, which has to refuse with a number.
-fn refused_find(card: &Words, n: usize, row: &mut [u64; 32], key: u32, number: u32) {
-    let found = test_calls::find(card, n, key);
-    expect(row, is_find_refused(found, number));
-}
-
-fn refused_delete(
-    card: &Words,
-    n: usize,
-    row: &mut [u64; 32],
-    state: &mut Block,
-    key: u32,
-    number: u32,
-) {
-    let begun = test_calls::start_delete(card, n, state, key);
-    expect(row, is_refused(begun, number));
-}
-
-fn refused_insert(
-    card: &Words,
-    n: usize,
-    row: &mut [u64; 32],
-    state: &mut Block,
-    key: u32,
-    number: u32,
-) {
-    let begun = test_calls::start_insert(card, n, state, key, 1);
-    expect(row, is_refused(begun, number));
-}
-
-fn refused_starts(
-    card: &Words,
-    n: usize,
-    row: &mut [u64; 32],
-    state: &mut Block,
-    key: u32,
-    number: u32,
-) {
-    refused_delete(card, n, row, state, key, number);
-    refused_insert(card, n, row, state, key, number);
-}
-
-fn refused_step(card: &mut Words, n: usize, row: &mut [u64; 32], state: &mut Block, number: u32) {
-    let answer = test_calls::step(card, n, state);
-    expect(row, is_step_refused(answer, number));
-}
-
-// Key 0 is refused 6, a start that is not idle 7, an idle step 10.
-pub fn refused_call(card: &mut Words, row: &mut [u64; 32], state: &mut Block, which: u64) {
-    let is_idle = row[HAND] == 0;
-    let n = row[LENGTH] as usize;
-    let key = keys::key(row);
-    if which == 0 {
-        refused_find(card, n, row, 0, 6);
-    } else if is_idle && which == 1 {
-        refused_step(card, n, row, state, 10);
-    } else if is_idle {
-        refused_starts(card, n, row, state, 0, 6);
-    } else {
-        refused_starts(card, n, row, state, key, 7);
-    }
-}
-
-fn short_length(row: &[u64; 32]) -> usize {
-    let n = row[LENGTH] as usize;
-    if n == 0 { 0 } else { n - 1 }
-}
-
-// A card that is a word too short is refused 1.
-pub fn short_card(card: &mut Words, row: &mut [u64; 32], state: &mut Block, which: u64) {
-    let key = keys::key(row);
-    let n = short_length(row);
-    if which == 3 {
-        refused_find(card, n, row, key, 1);
-    } else if which == 4 {
-        refused_starts(card, n, row, state, key, 1);
-    } else {
-        refused_step(card, n, row, state, 1);
-    }
-}
-
-// The book's side of a start.
-fn take_in_hand(book: &Words, row: &mut [u64; 32], kind: u64, is_full: bool) {
-    let n = row[RANGE] as usize;
-    let at = book::place_of(book, n, narrow(row[KEY]));
-    row[HAND] = kind;
-    row[TAKEN] = 0;
-    row[ENTERED] = 0;
-    row[FULL] = as_number(is_full);
-    row[WAS_HELD] = as_number(at < n);
-    row[HELD] = wide(book::value_at(book, at));
-}
-
-// An insert that was started: with fewer than 6 nodes there are never 5 free for one that splits.
-fn started_insert(book: &Words, row: &mut [u64; 32], is_full: bool) {
-    take_in_hand(book, row, 1, is_full);
-    let is_split = row[WAS_HELD] == 0 && is_full;
-    let is_small = row[NODES] < 6;
-    wrong_if(row, is_small && is_split);
-}
-
-// A refused insert: refusal 8, key absent, leaf full.
-fn no_room(book: &Words, row: &mut [u64; 32], is_full: bool, refusal: u32) {
-    count(row, REFUSED);
-    let n = row[RANGE] as usize;
-    let at = book::place_of(book, n, narrow(row[KEY]));
-    wrong_if(row, refusal != 8 || at < n || !is_full);
-}
-
-fn insert_begun(book: &Words, row: &mut [u64; 32], is_full: bool, begun: Begun) {
-    match begun {
-        Begun::Started => started_insert(book, row, is_full),
-        Begun::Idle => wrong_if(row, true),
-        Begun::Refused(r) => no_room(book, row, is_full, r),
-    }
-}
-
-fn delete_begun(book: &Words, row: &mut [u64; 32], is_full: bool, begun: Begun) {
-    match begun {
-        Begun::Started => take_in_hand(book, row, 2, is_full),
-        Begun::Idle => wrong_if(row, true),
-        Begun::Refused(_) => wrong_if(row, true),
-    }
-}
-
-// Starts an insert of the key and value in the row.
-fn insert(card: &Words, book: &Words, row: &mut [u64; 32], state: &mut Block) {
-    let key = narrow(row[KEY]);
-    let begun = test_calls::start_insert(
-        card,
-        row[LENGTH] as usize,
-        state,
-        key,
-        narrow(row[VALUE]),
-    );
-    let is_full = book::is_leaf_full(card, key);
-    insert_begun(book, row, is_full, begun);
-}
-
-fn delete(card: &Words, book: &Words, row: &mut [u64; 32], state: &mut Block) {
-    let key = narrow(row[KEY]);
-    let begun = test_calls::start_delete(card, row[LENGTH] as usize, state, key);
-    let is_full = book::is_leaf_full(card, key);
-    delete_begun(book, row, is_full, begun);
-}
-
-// Of 16 starts so many are inserts: for some time more of the one, then more of the other.
-fn inserts_of_sixteen(row: &[u64; 32]) -> u64 {
-    if (row[STEPS] / 4096) % 2 == 1 { 4 } else { 12 }
-}
-
-// Starts an insert or a delete of a key of the range.
-pub fn start(card: &Words, book: &Words, row: &mut [u64; 32], state: &mut Block) {
-    row[KEY] = wide(keys::key(row));
-    row[VALUE] = wide(random::word(row));
-    count(row, CALLS);
-    let limit = inserts_of_sixteen(row);
-    if random::below(row, 16) < limit {
-        insert(card, book, row, state);
-    } else {
-        delete(card, book, row, state);
-    }
-}
+use crate::book::{Hand, Kind};
+use crate::trial::{Trial, count};
+use crate::{leaf, refusals};
+use std::alloc::AllocError;
+use table::{Answer, Begun};
+use test_calls::Block;
 
 // Whether a step's answer is not the one due: a store, of which there are at most 657, or the final answer by the book as the update
 // began.
-fn is_wrong(row: &[u64; 32], answer: Answer) -> bool {
+fn is_wrong(hand: &Hand, answer: Answer) -> bool {
     match answer {
-        Answer::Stored(_) => row[TAKEN] > 656,
-        Answer::Absent => row[WAS_HELD] == 1,
-        Answer::Value(v) => row[WAS_HELD] == 0 || row[HELD] != wide(v),
-        Answer::Ready => true,
-        Answer::Refused(_) => true,
+        Answer::Stored(_) => hand.taken > 656,
+        Answer::Absent => hand.held.is_some(),
+        Answer::Value(value) => hand.held != Some(value),
+        Answer::Ready | Answer::Refused(_) => true,
     }
 }
 
-fn is_store(answer: Answer) -> bool {
-    match answer {
-        Answer::Stored(_) => true,
-        Answer::Absent => false,
-        Answer::Value(_) => false,
-        Answer::Ready => false,
-        Answer::Refused(_) => false,
+impl Trial {
+    // A call that has to be refused with a number, and what it was refused with.
+    fn expect(&mut self, number: u32, refusal: Option<u32>) {
+        count(&mut self.counts.calls);
+        count(&mut self.counts.refused);
+        self.wrong_if(refusal != Some(number));
     }
-}
 
-// The book's side of a step.
-fn stepped(book: &mut Words, row: &mut [u64; 32], answer: Answer) {
-    count(row, CALLS);
-    count(row, STEPS);
-    let wrong = is_wrong(row, answer);
-    wrong_if(row, wrong);
-    book::book_step(book, row, !is_store(answer));
-}
+    fn expect_of_find(&mut self, number: u32, card: &[u32], key: u32) {
+        self.expect(number, refusals::of_find(table::find(card, key)));
+    }
 
-// A step of the update in hand.
-pub fn step(card: &mut Words, book: &mut Words, row: &mut [u64; 32], state: &mut Block) {
-    let answer = test_calls::step(card, row[LENGTH] as usize, state);
-    stepped(book, row, answer);
+    fn expect_of_starts(&mut self, number: u32, card: &[u32], state: &mut Block, key: u32) {
+        let begun = table::start_delete(card, state, key);
+        self.expect(number, refusals::of_start(begun));
+        let begun = table::start_insert(card, state, key, 1);
+        self.expect(number, refusals::of_start(begun));
+    }
+
+    fn expect_of_step(&mut self, number: u32, card: &mut [u32], state: &mut Block) {
+        let answer = table::step(card, state);
+        self.expect(number, refusals::of_step(answer));
+    }
+
+    // Key 0 is refused 6, a start that is not idle 7, an idle step 10.
+    pub fn refused_call(&mut self, card: &mut [u32], state: &mut Block, which: u32) {
+        let is_idle = self.book.hand.is_none();
+        let key = self.any_key();
+        match (which, is_idle) {
+            (0, _) => self.expect_of_find(6, card, 0),
+            (1, true) => self.expect_of_step(10, card, state),
+            (_, true) => self.expect_of_starts(6, card, state, 0),
+            (_, false) => self.expect_of_starts(7, card, state, key),
+        }
+    }
+
+    // A card that is a word too short is refused 1.
+    pub fn short_card(&mut self, card: &mut [u32], state: &mut Block, which: u32) {
+        let key = self.any_key();
+        let n = card.len().saturating_sub(1);
+        let short = &mut card[..n];
+        match which {
+            3 => self.expect_of_find(1, short, key),
+            4 => self.expect_of_starts(1, short, state, key),
+            _ => self.expect_of_step(1, short, state),
+        }
+    }
+
+    // An insert that was started, or refused for want of room: refusal 8, key absent, leaf full. With fewer than 6 nodes there are
+    // never 5 free for one that splits.
+    fn insert_begun(&mut self, hand: Hand, begun: Begun) {
+        let is_split = hand.held.is_none() && hand.is_leaf_full;
+        match begun {
+            Begun::Started => {
+                self.book.hand = Some(hand);
+                self.wrong_if(self.list.nodes < 6 && is_split);
+            }
+            Begun::Idle => self.wrong_if(true),
+            Begun::Refused(refusal) => {
+                count(&mut self.counts.refused);
+                self.wrong_if(refusal != 8 || !is_split);
+            }
+        }
+    }
+
+    fn delete_begun(&mut self, hand: Hand, begun: Begun) {
+        if matches!(begun, Begun::Started) {
+            self.book.hand = Some(hand);
+        } else {
+            self.wrong_if(true);
+        }
+    }
+
+    // Starts an update of a key, and the book's side of it.
+    fn start_update(&mut self, card: &[u32], state: &mut Block, key: u32, kind: Kind) {
+        let hand = Hand {
+            kind,
+            key,
+            taken: 0,
+            is_leaf_full: leaf::is_full(card, key),
+            is_entered: false,
+            held: self.book.value(key),
+        };
+        match kind {
+            Kind::Insert(value) => {
+                let begun = table::start_insert(card, state, key, value);
+                self.insert_begun(hand, begun);
+            }
+            Kind::Delete => {
+                let begun = table::start_delete(card, state, key);
+                self.delete_begun(hand, begun);
+            }
+        }
+    }
+
+    // Of 16 starts so many are inserts: for some time more of the one, then more of the other.
+    fn inserts_of_sixteen(&self) -> u32 {
+        if self.counts.steps / 4096 % 2 == 1 {
+            4
+        } else {
+            12
+        }
+    }
+
+    // Starts an insert or a delete of a key of the range.
+    pub fn start(&mut self, card: &[u32], state: &mut Block) {
+        let key = self.any_key();
+        let value = self.random.word();
+        count(&mut self.counts.calls);
+        let kind = if self.random.below(16) < self.inserts_of_sixteen() {
+            Kind::Insert(value)
+        } else {
+            Kind::Delete
+        };
+        self.start_update(card, state, key, kind);
+    }
+
+    // A step of the update in hand, and the book's side of it.
+    pub fn step(
+        &mut self,
+        card: &mut [u32],
+        state: &mut Block,
+        hand: Hand,
+    ) -> Result<(), AllocError> {
+        count(&mut self.counts.calls);
+        count(&mut self.counts.steps);
+        let answer = table::step(card, state);
+        self.wrong_if(is_wrong(&hand, answer));
+        self.book.step(!matches!(answer, Answer::Stored(_)))
+    }
 }

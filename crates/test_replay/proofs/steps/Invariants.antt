@@ -1,4 +1,0 @@
-use Rattle.test_replay.proofs.steps.Given as goal
-
-abbrev pub decreases-loop-left : goal.decreases-loop-left
-decreases-loop-left l = l.left
