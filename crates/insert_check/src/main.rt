@@ -9,16 +9,16 @@ use std::fs;
 use std::io::Read;
 use std::rt::Files;
 
-// Reads until the bytes are full, the file ends or a read fails, and answers how many bytes it put at their start.
+// Reads until the bytes are full, the file ends or a read fails, and answers how many bytes it put at their start. By hand: the library's
+// calls that read on either fail at an early end or want a `Vec`, and after a failed read say nothing of the bytes before it.
 fn read_full(file: &mut impl Read, bytes: &mut [u8]) -> usize
     ensures { result ≤ length bytes.new }
 {
     let mut done: usize = 0;
     while done < bytes.len() {
         match file.read(&mut bytes[done..]) {
-            Ok(0) => break,
+            Ok(0) | Err(_) => break,
             Ok(n) => done += n,
-            Err(_) => break,
         }
     }
     done
