@@ -59,10 +59,9 @@ fn list_table(card: &[u32], out: &mut [u32], greatest: usize) -> Summary
     ensures value { result ≡ summary_of (list_table greatest card.now (nodes_of_length greatest (length card.now))) out.old }
     ensures out_after { out.new ≡ (lay_listed (list_table greatest card.now (nodes_of_length greatest (length card.now))) out.old).words }
 {
-    let n = card::nodes_of(card.len(), greatest);
-    if n == 0 {
+    let Some(n) = card::nodes_of(card.len(), greatest) else {
         return refusing(1);
-    }
+    };
     let mut unreached: [u32; card_free::WORDS] = [0; card_free::WORDS];
     let mut found: [u32; FOUND_WORDS] = [0; FOUND_WORDS];
     let Some(levels) = card_check::check_table(card, n, &mut unreached, &mut found) else {
@@ -101,7 +100,7 @@ pub fn list_dump(bytes: &[u8], card: &mut [u32], out: &mut [u32], greatest: usiz
     ensures card_after { card.new ≡ opened_over greatest bytes.now card.old }
 {
     match card_dump::read_dump(bytes, card, greatest) {
-        card_dump::Answer::Refused(refusal) => refusing(refusal),
-        card_dump::Answer::Length(size) => list_card(&mut card[..size], out, greatest),
+        Ok(size) => list_card(&mut card[..size], out, greatest),
+        Err(refusal) => refusing(refusal.number()),
     }
 }

@@ -29,9 +29,7 @@ pub fn put_pairs(card: &[u32], out: &mut [u32], greatest: usize) -> usize
 {
     let mut at: usize = 0;
     let mut after: u32 = 0;
-    let mut left: usize = MOST_PAIRS;
-    while 0 < left {
-        left -= 1;
+    for _ in 0..MOST_PAIRS {
         let Successor::Pair { key, value } = next_pair(card, card::FIRST_LINE, after, greatest)
         else {
             return at;

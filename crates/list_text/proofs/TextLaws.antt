@@ -1,11 +1,12 @@
 -- Laws of the text: a turn of the loops over the pairs and over the families, and what `list_pairs::list_dump` hands over.
 use mathlib.Core.Path.{◌≡◌, refl, ap, ap₂, ◌∙◌}
 use mathlib.Core.List.{List, [], ◌∷◌, ◌++◌}
-use Prim.Native.Nat.{ℕ, suc, ◌+◌, ◌-◌, ◌/◌, ◌^◌, ◌≤◌, ◌<◌}
+use Prim.Native.Nat.{ℕ, zero, suc, ◌+◌, ◌-◌, ◌*◌, ◌/◌, ◌^◌, ◌≤◌, ◌<◌}
 use native.Mathlib.Omega.{arith}
 use native.Mathlib.Numerals.{add-one}
 use lib.ListN.{length, get_or, set, take, drop, length-append, length-drop, length-set, length-replicate}
-use lib.Seq.{drop-cons, length-take-le}
+use lib.Seq.{drop-cons, drop-drop, get_or-drop, get_or-take, length-take-le}
+use Rattle.std.specs.Simd.{first_chunks}
 use borrow.Author.Tests.{lt-ltb, le-ltb, eq-eqb, ne_eqb}
 use lib.Dec.{eqb}
 use Rattle.laws.proofs.Cases.{order, bool_cases}
@@ -65,6 +66,23 @@ pairs_end words i h = few (drop i words) (omega (arith, length-drop i words))
     few [] l = refl
     few (key ∷ []) l = refl
     few (key ∷ value ∷ ws) l = absurd (omega arith)
+
+-- the words in twos
+two_at : (n i : ℕ) (words : List ℕ) → i < n → get_or (first_chunks 2 n words) i [] ≡ take 2 (drop (2 * i) words)
+two_at zero i words h = absurd (omega arith)
+two_at (suc n) zero words h = refl
+two_at (suc n) (suc i) words h =
+    two_at n i (drop 2 words) (omega arith)
+    ∙ ap (take 2) (drop-drop (2 * i) 2 words ∙ ap (λ (k : ℕ). drop k words) (let z : 2 + 2 * i ≡ 2 * suc i = omega arith in z))
+
+pub two_words : (words : List ℕ) (twos : List (List ℕ)) (i : ℕ) → twos ≡ first_chunks 2 (length words / 2) words → i < length words / 2
+    → (get_or (get_or twos i []) 0 0 ≡ get_or words (2 * i) 0) × (get_or (get_or twos i []) 1 0 ≡ get_or words (2 * i + 1) 0)
+two_words words twos i e h =
+    let two : get_or twos i [] ≡ take 2 (drop (2 * i) words) = ap (λ (l : List (List ℕ)). get_or l i []) e ∙ two_at (length words / 2) i words h in (
+      ap (λ (l : List ℕ). get_or l 0 0) two ∙ get_or-take 2 (drop (2 * i) words) 0 0 (omega arith) ∙ get_or-drop (2 * i) words 0 0
+          ∙ ap (λ (k : ℕ). get_or words k 0) (let z : 2 * i + 0 ≡ 2 * i = omega arith in z),
+      ap (λ (l : List ℕ). get_or l 1 0) two ∙ get_or-take 2 (drop (2 * i) words) 1 0 (omega arith) ∙ get_or-drop (2 * i) words 1 0,
+    )
 
 pub lines_next : (words : List ℕ) (i at : ℕ) (row : List ℕ) {r : ℕ} {after : List ℕ} → i + 1 < length words
     → filled r after ≡ fill (pair_line (get_or words i 0) (get_or words (i + 1) 0)) (filled at row)

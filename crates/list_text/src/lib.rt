@@ -53,10 +53,9 @@ fn put_pairs(text: &mut [u8], at: usize, words: &[u32]) -> usize
     ensures upper_bound { result ≤ length text.old }
 {
     let mut next = at;
-    let mut i: usize = 0;
-    while i + 1 < words.len() {
-        next = put_pair(text, next, words[i], words[i + 1]);
-        i += 2;
+    let (pairs, _) = words.as_chunks::<2>();
+    for [key, value] in pairs {
+        next = put_pair(text, next, *key, *value);
     }
     next
 }
@@ -82,10 +81,8 @@ fn put_families(text: &mut [u8], at: usize, families: &[u32; FAMILIES]) -> usize
     ensures upper_bound { result ≤ at + 29 * family_count }
 {
     let mut next = at;
-    let mut i: usize = 0;
-    while i < FAMILIES {
-        next = put_family(text, next, i as u32, families[i]);
-        i += 1;
+    for (family, total) in families.iter().enumerate() {
+        next = put_family(text, next, family as u32, *total);
     }
     next
 }
@@ -103,22 +100,15 @@ pub fn list_text(dump: &[u8], text: &mut Text) -> usize
         return put_refusal(text, s.refusal);
     }
     let first = put_summary(text, s);
-    let families = s.families;
-    let next = put_families(text, first, &families);
-    let words = s.words;
-    put_pairs(text, next, &out[..words])
-}
-
-// As a slice, from its start.
-fn print_text(text: &Text, n: usize) {
-    print_first(text, n);
+    let next = put_families(text, first, &s.families);
+    put_pairs(text, next, &out[..s.words])
 }
 
 // What the program `list` prints for a dump.
 pub fn print_listing(dump: &[u8]) {
     let mut text = [0u8; TEXT_BYTES];
     let n = list_text(dump, &mut text);
-    print_text(&text, n);
+    print_first(&text, n);
 }
 
 // The longest dump has 57,856 bytes, so that a longer input is noticed.

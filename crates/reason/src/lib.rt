@@ -65,10 +65,9 @@ fn reason_on(card: &[u32], free: &[u32], key: u32, greatest: usize) -> Reason
     requires { length free.now ≡ word_count }
     ensures { result ≡ reason_on greatest card.now (nodes_of free.now) key }
 {
-    let n = card::nodes_of(card.len(), greatest);
-    if n == 0 {
+    let Some(n) = card::nodes_of(card.len(), greatest) else {
         return Reason::Refused(1);
-    }
+    };
     if key == 0 {
         return Reason::NoKey;
     }
@@ -104,8 +103,8 @@ pub fn insert_reason_in_dump(bytes: &[u8], card: &mut [u32], key: u32, greatest:
     ensures card_after { card.new ≡ opened_over greatest bytes.now card.old }
 {
     match card_dump::read_dump(bytes, card, greatest) {
-        card_dump::Answer::Refused(refusal) => Reason::Refused(refusal),
-        card_dump::Answer::Length(size) => insert_reason(&mut card[..size], key, greatest),
+        Ok(size) => insert_reason(&mut card[..size], key, greatest),
+        Err(refusal) => Reason::Refused(refusal.number()),
     }
 }
 
@@ -114,6 +113,7 @@ pub fn insert_reason_for_file(dump: &[u8], file: &[u8], card: &mut [u32], greate
     ensures value { result ≡ reason_in_dump greatest dump.now (length card.old) (key_in file.now) }
     ensures card_after { card.new ≡ opened_over greatest dump.now card.old }
 {
-    let key = reason_key::key_in(file);
+    // where the file has none, 0 stands for it, which is no key
+    let key = reason_key::key_in(file).unwrap_or(0);
     insert_reason_in_dump(dump, card, key, greatest)
 }

@@ -53,14 +53,9 @@ pub fn check_text(dump: &[u8], file: &[u8], text: &mut Line) -> usize
     put_reason(text, reason)
 }
 
-// As a slice, from its start.
-fn print_text(text: &Line, n: usize) {
-    print_first(text, n);
-}
-
 // What the program `insert_check` prints.
 pub fn print_check(dump: &[u8], file: &[u8]) {
-    let mut text = [0u8; 79];
+    let mut text: Line = [0; 79];
     let n = check_text(dump, file, &mut text);
-    print_text(&text, n);
+    print_first(&text, n);
 }

@@ -1,4 +1,5 @@
 use Rattle.std.proofs.Common.{ap, ap₂, sym, ◌∙◌, ℕ, List, ◌++◌, length, take, drop, length-take-le, arith}
+use Rattle.card_dump.specs.Answer.{Refused as ReadRefused}
 use Rattle.card_dump.proofs.AnswerLaws.{read_sized}
 use Rattle.list_pairs.specs.Listing.{Listed, list_card, list_dump, lay_listed}
 use Rattle.list_pairs.specs.Summaries.{summary_of}
@@ -11,20 +12,20 @@ use Rattle.list_pairs.proofs.list_dump.Goals as goal
 pub slice_bounds-list_card-end : goal.slice_bounds-list_card-end
 slice_bounds-list_card-end c =
     let d = c.read_dump in
-    omega (arith, d.auto.words, (read_sized _ c.args.bytes.now (length c.args.card.now) c.in-Length.size (sym c.in-Length.ensures.value)).room)
+    omega (arith, d.auto.words, (read_sized _ c.args.bytes.now (length c.args.card.now) c.in-Ok.size (sym c.in-Ok.ensures.value)).room)
 
-pub slice_bounds-list_card-end-in-Length : goal.slice_bounds-list_card-end-in-Length
-slice_bounds-list_card-end-in-Length c =
+pub slice_bounds-list_card-end-in-Ok : goal.slice_bounds-list_card-end-in-Ok
+slice_bounds-list_card-end-in-Ok c =
     let d = c.read_dump in
     sym
-    (length-take-le c.in-Length.size d.new.words
-    (omega (arith, d.auto.words, (read_sized _ c.args.bytes.now (length c.args.card.now) c.in-Length.size (sym c.in-Length.ensures.value)).room)))
+    (length-take-le c.in-Ok.size d.new.words
+    (omega (arith, d.auto.words, (read_sized _ c.args.bytes.now (length c.args.card.now) c.in-Ok.size (sym c.in-Ok.ensures.value)).room)))
 
-pub returns-in-Refused : goal.returns-in-Refused
-returns-in-Refused c =
-    let e = sym c.in-Refused.ensures.value in
+pub returns-in-Err : goal.returns-in-Err
+returns-in-Err c =
+    let e = sym (ap ReadRefused c.number.ensures ∙ c.in-Err.ensures.value) in
     let lent = length c.args.card.now in
-    let r = c.in-Refused.refusal in
+    let r = c.number.result in
     let told = summary_refused r (list_dump c.args.greatest c.args.bytes.now lent) c.args.out.now (dump_refused c.args.greatest c.args.bytes.now lent r e) in
     record {
       value = c.refusing.ensures ∙ told.0;
@@ -32,12 +33,12 @@ returns-in-Refused c =
       card_after = c.read_dump.ensures.words_after ∙ over_refused c.args.greatest c.args.bytes.now c.args.card.now r e;
     }
 
-pub returns-in-Length : goal.returns-in-Length
-returns-in-Length c =
+pub returns-in-Ok : goal.returns-in-Ok
+returns-in-Ok c =
     let d = c.read_dump in
     let k = c.list_card in
-    let size = c.in-Length.size in
-    let e = sym c.in-Length.ensures.value in
+    let size = c.in-Ok.size in
+    let e = sym c.in-Ok.ensures.value in
     let words = d.ensures.words_after in
     let is =
     ap (λ (l : List ℕ). list_card c.args.greatest (take size l)) words
