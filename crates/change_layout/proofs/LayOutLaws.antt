@@ -163,16 +163,6 @@ laid_balanced card (Share p) free last e = impossible (cc)
 laid_balanced card (Merge p) free last e = impossible (cc)
 laid_balanced card (MergeRoot p) free last e = impossible (cc)
 
--- one word at the front of a row, and two
-pub one_set : (row : List ℕ) (v : ℕ) → 1 ≤ length row → set row 0 v ≡ (v ∷ []) ++ drop 1 row
-one_set [] v h = absurd (omega arith)
-one_set (x ∷ row) v h = refl
-
-pub two_set : (row : List ℕ) (v w : ℕ) → 2 ≤ length row → set (set row 0 v) 1 w ≡ (v ∷ w ∷ []) ++ drop 2 row
-two_set [] v w h = absurd (omega arith)
-two_set (x ∷ []) v w h = absurd (omega arith)
-two_set (x ∷ y ∷ row) v w h = refl
-
 -- ---- where the first store goes
 
 -- "words 0 to 23 of each in order": word 0 of the first new node

@@ -71,10 +71,10 @@ store_count (Merge p) = 49
 store_count (MergeRoot p) = 25
 
 -- the three in one, as the code has them
-unfoldable pub change_of : ℕ → ℕ → Size
+abbrev pub change_of : ℕ → ℕ → Size
 change_of nodes stores = record { outcome = Prepared; nodes = nodes; stores = stores }
 
-unfoldable pub no_change : Outcome → Size
+abbrev pub no_change : Outcome → Size
 no_change outcome = record { outcome = outcome; nodes = 0; stores = 0 }
 
 unfoldable pub size_of : Decision → Size

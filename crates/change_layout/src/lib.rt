@@ -64,114 +64,79 @@ fn no_change(outcome: Outcome) -> Size
 
 // The new nodes of a decision, "(left, right, then above)", and its stores: "words 0 to 23 of each in order; a single link store ..
 // comes last".
+#[tactic(auto, unfolding(crate::specs::LayOut::size_of, crate::specs::LayOut::outcome_of, crate::specs::LayOut::needed, crate::specs::LayOut::store_count))]
 pub fn size_of(decision: Decision) -> Size
     ensures { result ≡ size_of decision }
 {
     match decision {
         Decision::Refused => no_change(Outcome::Refused),
         Decision::Balanced => no_change(Outcome::Balanced),
-        Decision::PutPair {
-            node,
-            slot,
-            key,
-            value,
-        } => change_of(0, 2),
-        Decision::ClearKey { node, slot } => change_of(0, 1),
-        Decision::SplitLeaf {
-            node,
-            link,
-            key,
-            value,
-        } => change_of(3, STORES_OF_THREE),
-        Decision::Absorb(p) => change_of(1, STORES_OF_ONE),
-        Decision::SplitParent(p) => change_of(3, STORES_OF_THREE),
-        Decision::Share(p) => change_of(3, STORES_OF_THREE),
-        Decision::Merge(p) => change_of(2, STORES_OF_TWO),
-        Decision::MergeRoot(p) => change_of(1, STORES_OF_ONE),
+        Decision::PutPair { .. } => change_of(0, 2),
+        Decision::ClearKey { .. } => change_of(0, 1),
+        Decision::SplitLeaf { .. } | Decision::SplitParent(_) | Decision::Share(_) => {
+            change_of(3, STORES_OF_THREE)
+        }
+        Decision::Merge(_) => change_of(2, STORES_OF_TWO),
+        Decision::Absorb(_) | Decision::MergeRoot(_) => change_of(1, STORES_OF_ONE),
     }
 }
 
 // The nodes that the last store cuts out of the tree.
+#[tactic(auto, unfolding(crate::specs::LayOut::cut_by, change_decide::specs::Places::Fits))]
 pub fn cut_of(card: &[u32], decision: Decision) -> [u32; 3]
     requires { Fits card.now decision }
     ensures { result ≡ pad 3 (cut_by card.now decision) }
 {
     match decision {
-        Decision::Refused => [0; 3],
-        Decision::Balanced => [0; 3],
-        Decision::PutPair {
-            node,
-            slot,
-            key,
-            value,
-        } => [0; 3],
-        Decision::ClearKey { node, slot } => [0; 3],
-        Decision::SplitLeaf {
-            node,
-            link,
-            key,
-            value,
-        } => [node as u32, 0, 0],
-        Decision::Absorb(p) => cut_tagged(p),
-        Decision::SplitParent(p) => cut_tagged(p),
-        Decision::Share(p) => cut_siblings(card, p),
-        Decision::Merge(p) => cut_siblings(card, p),
-        Decision::MergeRoot(p) => cut_siblings(card, p),
+        Decision::SplitLeaf { node, .. } => [node as u32, 0, 0],
+        Decision::Absorb(p) | Decision::SplitParent(p) => cut_tagged(p),
+        Decision::Share(p) | Decision::Merge(p) | Decision::MergeRoot(p) => cut_siblings(card, p),
+        Decision::Refused
+        | Decision::Balanced
+        | Decision::PutPair { .. }
+        | Decision::ClearKey { .. } => [0; 3],
     }
 }
 
 // The places of its stores, at the front of the row. They go by the numbers of the new nodes and by the link alone.
+#[tactic(auto, unfolding(crate::specs::LayOut::places_by, crate::specs::LayOut::needed, crate::specs::LayOut::store_count, change_decide::specs::Places::Fits))]
 pub fn lay_places(decision: Decision, nodes: [u32; 3], places: &mut [u32])
     requires { FitsSome decision × Numbered (needed decision) nodes × (length places.old ≡ 73) }
     ensures { places.new ≡ places_by decision nodes ++ drop (store_count decision) places.old }
 {
     match decision {
-        Decision::Refused => {}
-        Decision::Balanced => {}
-        Decision::PutPair {
-            node,
-            slot,
-            key,
-            value,
-        } => {
+        Decision::Refused | Decision::Balanced => {}
+        Decision::PutPair { node, slot, .. } => {
             places[0] = word_place(node, card::VALUES + slot);
             places[1] = word_place(node, card::KEYS + slot);
         }
         Decision::ClearKey { node, slot } => {
             places[0] = word_place(node, card::KEYS + slot);
         }
-        Decision::SplitLeaf {
-            node,
-            link,
-            key,
-            value,
-        } => nodes::lay_places(places, nodes, 3, link),
-        Decision::Absorb(p) => nodes::lay_places(places, nodes, 1, p.above),
-        Decision::SplitParent(p) => nodes::lay_places(places, nodes, 3, p.above),
-        Decision::Share(p) => nodes::lay_places(places, nodes, 3, p.above),
+        Decision::SplitLeaf { link, .. } => nodes::lay_places(places, nodes, 3, link),
+        Decision::SplitParent(p) | Decision::Share(p) => {
+            nodes::lay_places(places, nodes, 3, p.above)
+        }
         Decision::Merge(p) => nodes::lay_places(places, nodes, 2, p.above),
-        Decision::MergeRoot(p) => nodes::lay_places(places, nodes, 1, p.above),
+        Decision::Absorb(p) | Decision::MergeRoot(p) => {
+            nodes::lay_places(places, nodes, 1, p.above)
+        }
     }
 }
 
 // The words that go there, at the front of the row: what the new nodes hold is read off the card.
+#[tactic(auto, unfolding(crate::specs::LayOut::words_by, crate::specs::LayOut::store_count, change_decide::specs::Places::Fits))]
 pub fn lay_values(card: &[u32], decision: Decision, nodes: [u32; 3], values: &mut [u32])
     requires { Fits card.now decision × (length values.old ≡ 73) }
     ensures { values.new ≡ words_by card.now decision nodes ++ drop (store_count decision) values.old }
 {
     match decision {
-        Decision::Refused => {}
-        Decision::Balanced => {}
-        Decision::PutPair {
-            node,
-            slot,
-            key,
-            value,
-        } => {
+        Decision::Refused | Decision::Balanced => {}
+        Decision::PutPair { key, value, .. } => {
             values[0] = value;
             values[1] = key;
         }
-        Decision::ClearKey { node, slot } => {
+        Decision::ClearKey { .. } => {
             values[0] = 0;
         }
         Decision::SplitLeaf {

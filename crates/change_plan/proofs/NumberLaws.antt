@@ -231,10 +231,6 @@ without_next nodes i free h =
     ∙ ap (λ (l : List ℕ). without_all l free) (sym (ap (λ (x : ℕ). take x nodes) (add-one i) ∙ take-suc nodes i 0 h))
 
 -- the last of them
-pub last_none : (nodes : List ℕ) (count last : ℕ) → count ≡ 0 → last ≡ last_of last (take count nodes)
-unfolding last_of
-last_none nodes count last e = ap (λ (k : ℕ). last_of last (take k nodes)) (sym e)
-
 pub last_some : (nodes : List ℕ) (count last : ℕ) → (count ≡ 0 → ⊥) → count ≤ length nodes → get_or nodes (count - 1) 0 ≡ last_of last (take count nodes)
 last_some nodes zero last z h = absurd (z refl)
 last_some nodes (suc k) last z h =
