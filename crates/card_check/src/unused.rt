@@ -3,6 +3,7 @@ ghost use Rattle.std.specs.Prelude.{◌≡◌, ◌≤◌, length};
 ghost use Rattle.laws.specs.Lists.{all_zero};
 ghost use Rattle.card_check.specs.Check.{unused_zero};
 
+// Whether all these words are 0.
 fn are_zero(words: &[u32]) -> bool
     ensures { result ≡ all_zero words.now }
 {

@@ -25,7 +25,7 @@ pub fn count_several(totals: &mut [u32], key: u32, count: u32)
     ensures { totals.new ≡ several_in key count totals.old }
 {
     let family = family_of(key);
-    totals[family] = std::num::wrapping_add_u32(totals[family], count);
+    totals[family] = totals[family].wrapping_add(count);
 }
 
 // A pair with this key is put in.
@@ -49,5 +49,5 @@ pub fn is_one_family(low: u32, high: u64) -> bool
     ensures { result ≡ nat_le high ((family_of low + 1) * family_size) }
 {
     let family = family_of(low) as u64;
-    high <= (family + 1) * (FAMILY_SIZE as u64)
+    high <= (family + 1) * u64::from(FAMILY_SIZE)
 }
