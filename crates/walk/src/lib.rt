@@ -31,7 +31,7 @@ fn child_index(node: &[u32], key: u32) -> usize
     ensures { result ≡ child_index node.now key }
 {
     let mut i: usize = 0;
-    // ten words at most; the bound is read off the part, since with a constant the loop is not compiled into a find's own
+    // by hand: ten words at most, and the bound is read off the part, since with a constant the loop is not compiled into a find's own
     while i + 14 < node.len() {
         if key < node[card::KEYS + i] {
             return i;
@@ -87,7 +87,8 @@ pub enum Down {
     Inner { index: usize, child: usize },
 }
 
-// Every loop down the card goes by this. It takes the words of the node, and not the card and a number: it is then compiled into each
+// Every loop down the card goes by this: four loops, each with what it alone carries, since a find through another's is slower
+// (docs/DECISIONS.md, "The loops for it"). It takes the words of the node, and not the card and a number: it is then compiled into each
 // loop, and its own pass over the routing keys unrolled there. Where it makes the part itself, it is unrolled first, and so long that it
 // is called.
 fn go_down(node: &[u32], key: u32) -> Down
