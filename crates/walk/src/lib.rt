@@ -8,6 +8,7 @@ ghost use Rattle.walk.specs.Descent.{child_index, slot_of, outside, look_in, dow
 ghost use Rattle.walk.specs.Descent.{landing_of, end_of, seek};
 
 // The slot of a key in a leaf: the first of the eleven whose key word is the key.
+#[tactic(auto, using(crate::proofs::DescentLaws::slot_start, crate::proofs::DescentLaws::slot_here, crate::proofs::DescentLaws::slot_next, crate::proofs::DescentLaws::slot_end))]
 pub fn find_slot(node: &[u32], key: u32) -> Option<usize>
     requires { length node.now ≡ 24 }
     ensures { result ≡ slot_of node.now key }
@@ -31,7 +32,7 @@ fn child_index(node: &[u32], key: u32) -> usize
     ensures { result ≡ child_index node.now key }
 {
     let mut i: usize = 0;
-    // ten words at most; the bound is read off the part, since with a constant the loop is not compiled into a find's own
+    // by hand: ten words at most, and the bound is read off the part, since with a constant the loop is not compiled into a find's own
     while i + 14 < node.len() {
         if key < node[card::KEYS + i] {
             return i;
@@ -87,9 +88,11 @@ pub enum Down {
     Inner { index: usize, child: usize },
 }
 
-// Every loop down the card goes by this. It takes the words of the node, and not the card and a number: it is then compiled into each
+// Every loop down the card goes by this: four loops, each with what it alone carries, since a find through another's is slower
+// (docs/DECISIONS.md, "The loops for it"). It takes the words of the node, and not the card and a number: it is then compiled into each
 // loop, and its own pass over the routing keys unrolled there. Where it makes the part itself, it is unrolled first, and so long that it
 // is called.
+#[tactic(auto, using(crate::proofs::DescentLaws::index_le, crate::proofs::DescentLaws::down_childless, crate::proofs::DescentLaws::down_inner), unfolding(crate::specs::Descent::down_in, crate::specs::Descent::down_by))]
 fn go_down(node: &[u32], key: u32) -> Down
     requires { length node.now ≡ 24 }
     ensures { result ≡ down_in node.now key }
