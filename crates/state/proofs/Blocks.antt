@@ -6,7 +6,7 @@ use Prim.Native.Nat.{ℕ, zero, suc, ◌+◌, ◌*◌, ◌/◌, ◌%◌, ◌≤�
 use native.Mathlib.Omega.{arith}
 use native.Mathlib.Nat.{pow-suc}
 use lib.ListN.{length, get_or, set, take, drop, replicate, length-set, length-take, length-drop, take-append-drop}
-use lib.Seq.{take_at, drop_at, drop-drop, drop-cons, drop-set-add, take_all, get_or-set_same, get_or-set_other}
+use lib.Seq.{take_at, drop_at, drop-drop, drop-cons, drop-set-add, get_or-set_same, get_or-set_other}
 use lib.Dec.{ltb, eqb}
 use borrow.Author.Tests.{lt-ltb, eq-eqb, ne_eqb}
 use Rattle.laws.specs.Bits.{bit}
@@ -79,14 +79,8 @@ words_each (Inserting key value begun) = refl
 words_each (Deleting key begun value) = refl
 words_each (Repairing key) = refl
 
-four_stored : (block : List ℕ) (p q r s : ℕ) → 11 ≤ length block → set (set (set (set block 2 p) 3 q) 4 r) 5 s ≡ over block 2 (p ∷ q ∷ r ∷ s ∷ [])
-four_stored block p q r s h =
-    by_head (λ (b : List ℕ). set (set (set (set b 2 p) 3 q) 4 r) 5 s ≡ over b 2 (p ∷ q ∷ r ∷ s ∷ [])) block h (λ a b c d e f g i j k l rest. refl)
-
-pub doing_stored : (block : List ℕ) (doing : Doing) {words : List ℕ} → 11 ≤ length block → words ≡ doing_words doing
-    → set (set (set (set block 2 (get_or words 0 0)) 3 (get_or words 1 0)) 4 (get_or words 2 0)) 5 (get_or words 3 0) ≡ begun_block block doing
-unfolding begun_block
-doing_stored block doing h e = rw e (four_stored block _ _ _ _ h ∙ ap (over block 2) (words_each doing))
+pub length_doing : (doing : Doing) → length (doing_words doing) ≡ 4
+length_doing doing = sym (ap length (words_each doing))
 
 phase_read : (phase : Phase) → phase_in (phase_word phase) ≡ phase
 unfolding phase_in phase_word
@@ -177,30 +171,25 @@ head_read block doing h e =
     e (three block 8 (omega arith))
 
 -- words 0 to 10, stored
-abbrev pub headed : List ℕ → State → List ℕ
-headed block s =
-    set (set (set (set (set block 6 s.made) 7 s.count) 8 (get_or s.cut 0 0)) 9 (get_or s.cut 1 0)) 10 (get_or s.cut 2 0)
+abbrev headed : List ℕ → State → List ℕ
+headed block s = placed 8 3 (set (set block 6 s.made) 7 s.count) s.cut
 
-pub headed_length : (block : List ℕ) (s : State) → length (headed block s) ≡ length block
-headed_length block s = simp length-set
-
-head_four : (block : List ℕ) (n l p q r s made count x y z : ℕ) → 11 ≤ length block
-    → set (set (set (set (set (over (set (set block 0 n) 1 l) 2 (p ∷ q ∷ r ∷ s ∷ [])) 6 made) 7 count) 8 x) 9 y) 10 z
-    ≡ n ∷ l ∷ p ∷ q ∷ r ∷ s ∷ made ∷ count ∷ x ∷ y ∷ z ∷ drop 11 block
-head_four block n l p q r s made count x y z h =
+head_four : (block : List ℕ) (n l p q r s made count : ℕ) (cut : List ℕ) → 11 ≤ length block
+    → placed 8 3 (set (set (over (set (set block 0 n) 1 l) 2 (p ∷ q ∷ r ∷ s ∷ [])) 6 made) 7 count) cut
+    ≡ n ∷ l ∷ p ∷ q ∷ r ∷ s ∷ made ∷ count ∷ cut ++ drop 11 block
+head_four block n l p q r s made count cut h =
     by_head
-    (λ (b : List ℕ). set (set (set (set (set (over (set (set b 0 n) 1 l) 2 (p ∷ q ∷ r ∷ s ∷ [])) 6 made) 7 count) 8 x) 9 y) 10 z
-    ≡ n ∷ l ∷ p ∷ q ∷ r ∷ s ∷ made ∷ count ∷ x ∷ y ∷ z ∷ drop 11 b)
+    (λ (b : List ℕ). placed 8 3 (set (set (over (set (set b 0 n) 1 l) 2 (p ∷ q ∷ r ∷ s ∷ [])) 6 made) 7 count) cut
+    ≡ n ∷ l ∷ p ∷ q ∷ r ∷ s ∷ made ∷ count ∷ cut ++ drop 11 b)
     block h (λ a b c d e f g i j k m rest. refl)
 
-pub head_stored : (block : List ℕ) (s : State) → 11 ≤ length block → length s.cut ≡ 3
+pub head_stored : (block : List ℕ) (s : State) → 11 ≤ length block
     → headed (begun_block (set (set block 0 s.nodes) 1 s.last) s.doing) s ≡ head_words s ++ drop 11 block
 unfolding begun_block head_words
-head_stored block s h three_long =
+head_stored block s h =
     ap (λ (words : List ℕ). headed (over (set (set block 0 s.nodes) 1 s.last) 2 words) s) (sym (words_each s.doing))
-    ∙ head_four block _ _ _ _ _ _ _ _ _ _ _ h
-    ∙ ap₂ (λ (words cut : List ℕ). (s.nodes ∷ s.last ∷ words ++ (s.made ∷ s.count ∷ cut)) ++ drop 11 block)
-    (words_each s.doing) (three s.cut 0 (omega arith) ∙ take_all 3 s.cut (omega arith))
+    ∙ head_four block _ _ _ _ _ _ _ _ _ h
+    ∙ ap (λ (words : List ℕ). (s.nodes ∷ s.last ∷ words ++ (s.made ∷ s.count ∷ s.cut)) ++ drop 11 block) (words_each s.doing)
 
 -- any number that is none of the four is idle
 kind_idle : (what a b c : ℕ) → (what ≡ 0 → ⊥) → ltb 4 what ≡ is_idle (doing_in what a b c)
@@ -415,19 +404,17 @@ pub memory_none : (after : List ℕ) → memory_in (replicate back_at 0 ++ after
 unfolding memory_in no_memory doing_in nodes_of digits_of all_nodes stores_of zip
 memory_none after = refl
 
--- the stores that make it: words 0 and 1 and 6 to 10, what is being done, and the rows
-abbrev pub numbered : List ℕ → ℕ → ℕ → List ℕ
-numbered block n last = set (set (set (set (set (set (set block 0 n) 1 last) 6 0) 7 0) 8 0) 9 0) 10 0
-
-pub numbered_length : (block : List ℕ) (n last : ℕ) → length (numbered block n last) ≡ length block
-numbered_length block n last = simp length-set
+-- the stores that make it: words 0 and 1, what is being done, words 6 to 10, and the rows
+abbrev numbered : List ℕ → ℕ → ℕ → List ℕ
+numbered block n last = set (set block 0 n) 1 last
 
 rest_four : (block zeros : List ℕ) (n last p q r s : ℕ) → length block ≡ state_words → zeros ≡ replicate rest_words 0
-    → placed places_at rest_words (over (numbered block n last) 2 (p ∷ q ∷ r ∷ s ∷ [])) zeros
+    → placed places_at rest_words (placed 6 5 (over (numbered block n last) 2 (p ∷ q ∷ r ∷ s ∷ [])) (replicate 5 0)) zeros
     ≡ n ∷ last ∷ p ∷ q ∷ r ∷ s ∷ 0 ∷ 0 ∷ 0 ∷ 0 ∷ 0 ∷ part block free_at word_count ++ (replicate rest_words 0 ++ drop totals_at block)
 rest_four block zeros n last p q r s len z =
     by_head
-    (λ (x : List ℕ). length x ≡ state_words → placed places_at rest_words (over (numbered x n last) 2 (p ∷ q ∷ r ∷ s ∷ [])) zeros
+    (λ (x : List ℕ). length x ≡ state_words
+    → placed places_at rest_words (placed 6 5 (over (numbered x n last) 2 (p ∷ q ∷ r ∷ s ∷ [])) (replicate 5 0)) zeros
     ≡ n ∷ last ∷ p ∷ q ∷ r ∷ s ∷ 0 ∷ 0 ∷ 0 ∷ 0 ∷ 0 ∷ part x free_at word_count ++ (replicate rest_words 0 ++ drop totals_at x))
     block (omega (arith, len))
     (λ a b c d e f g i j k l rest h.
@@ -452,12 +439,12 @@ one_line block len =
 free_before : (block : List ℕ) → part (set block lines_at 0) free_at word_count ≡ part block free_at word_count
 free_before block = same_part (set block lines_at 0) block free_at word_count (length-set block lines_at 0) (λ i a b. get_or-set_other block lines_at i 0 0 (λ z. omega arith))
 
-pub rest_stored : (block zeros : List ℕ) (n last : ℕ) (doing : Doing) → length block ≡ state_words → zeros ≡ replicate rest_words 0
-    → placed places_at rest_words (begun_block (numbered (set block lines_at 0) n last) doing) zeros
+pub rest_stored : (block five zeros : List ℕ) (n last : ℕ) (doing : Doing) → length block ≡ state_words → five ≡ replicate 5 0 → zeros ≡ replicate rest_words 0
+    → placed places_at rest_words (placed 6 5 (begun_block (numbered (set block lines_at 0) n last) doing) five) zeros
     ≡ resting_words n (part block free_at word_count) last (part block totals_at family_count ++ 0 ∷ drop back_at block) doing
 unfolding begun_block resting_words
-rest_stored block zeros n last doing len z =
-    ap (λ (words : List ℕ). placed places_at rest_words (over (numbered (set block lines_at 0) n last) 2 words) zeros) (sym (words_each doing))
+rest_stored block five zeros n last doing len e z =
+    ap₂ (λ (words l : List ℕ). placed places_at rest_words (placed 6 5 (over (numbered (set block lines_at 0) n last) 2 words) l) zeros) (sym (words_each doing)) e
     ∙ rest_four (set block lines_at 0) zeros n last _ _ _ _ (length-set block lines_at 0 ∙ len) z
     ∙ ap (λ (words : List ℕ). n ∷ last ∷ words
     ++ (0 ∷ 0 ∷ 0 ∷ 0 ∷ 0 ∷ part (set block lines_at 0) free_at word_count ++ (replicate rest_words 0 ++ drop totals_at (set block lines_at 0))))

@@ -1,21 +1,12 @@
--- Laws of a row filled word by word, and of parts of a block stored anew.
+-- Laws of parts of a block, and of parts stored anew.
 use mathlib.Core.Path.{◌≡◌, refl, sym, ap, ap₂, ◌∙◌}
 use mathlib.Core.List.{List, [], ◌∷◌, ◌++◌, append_assoc}
 use Prim.Native.Nat.{ℕ, suc, ◌+◌, ◌-◌, ◌≤◌, ◌<◌, min}
 use native.Mathlib.Omega.{arith}
-use native.Mathlib.Numerals.{add-one}
-use lib.ListN.{length, get_or, take, drop, set, length-append, length-take, length-drop, get_or-append}
-use lib.Seq.{take_at, drop_at, drop-drop, drop-cons, take-suc, take-suc-set, take_all, get_or-take, get_or-drop, ext_get_or}
+use lib.ListN.{length, get_or, take, drop, length-append, length-take, length-drop, get_or-append}
+use lib.Seq.{take_at, drop_at, drop-drop, drop-cons, get_or-take, get_or-drop, ext_get_or}
 use Rattle.state.specs.Block.{depth_at, free_at, places_at, state_words, values_at, part}
 use Rattle.card_free.specs.NodeSet.{word_count}
-
--- ---- a row filled word by word
-
-pub copy_more : (row from : List ℕ) (i : ℕ) → i < length row → i < length from → take i row ≡ take i from → take (i + 1) (set row i (get_or from i 0)) ≡ take (i + 1) from
-copy_more row from i h k e = rw (add-one i) (take-suc-set row i (get_or from i 0) h ∙ ap (λ (l : List ℕ). l ++ get_or from i 0 ∷ []) e ∙ sym (take-suc from i 0 k))
-
-pub copy_all : (n : ℕ) (row from : List ℕ) → length row ≡ n → length from ≡ n → take n row ≡ take n from → row ≡ from
-copy_all n row from e f h = sym (take_all n row (omega arith)) ∙ h ∙ take_all n from (omega arith)
 
 -- three words of a block, one by one
 pub three : (block : List ℕ) (i : ℕ) → i + 3 ≤ length block → get_or block i 0 ∷ get_or block (i + 1) 0 ∷ get_or block (i + 2) 0 ∷ [] ≡ part block i 3

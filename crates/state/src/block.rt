@@ -1,5 +1,5 @@
 // The state as the words that a caller lends; every call works on these.
-ghost use Rattle.std.specs.Prelude.{◌≡◌, ◌≤◌, true, ◌++◌, length, replicate, drop};
+ghost use Rattle.std.specs.Prelude.{◌≡◌, ◌≤◌, true, ◌++◌, length, get_or, drop};
 ghost use Rattle.card.specs.Layout.{greatest_nodes};
 ghost use Rattle.card_family.specs.Families.{family_count};
 ghost use Rattle.card_free.specs.NodeSet.{word_count, nodes_of};
@@ -86,34 +86,71 @@ pub fn wide(word: u32) -> usize
 }
 
 // How far an insert or a delete is, by its word.
-fn phase_in(word: u32) -> Phase
-    ensures { result ≡ phase_in word }
-{
-    match word {
-        NOT_BEGUN => Phase::NotBegun,
-        IN_HAND => Phase::InHand,
-        _ => Phase::Decided,
+impl From<u32> for Phase {
+    ghost from_gives = { λ word phase. phase ≡ phase_in word };
+
+    #[tactic(auto, unfolding(crate::specs::Block::phase_in))]
+    fn from(word: u32) -> Self {
+        match word {
+            NOT_BEGUN => Phase::NotBegun,
+            IN_HAND => Phase::InHand,
+            _ => Phase::Decided,
+        }
+    }
+}
+
+// The word for how far an insert or a delete is.
+impl From<Phase> for u32 {
+    ghost from_gives = { λ phase word. word ≡ phase_word phase };
+
+    #[tactic(auto, unfolding(crate::specs::Block::phase_word))]
+    fn from(phase: Phase) -> u32 {
+        match phase {
+            Phase::NotBegun => NOT_BEGUN,
+            Phase::InHand => IN_HAND,
+            Phase::Decided => DECIDED,
+        }
     }
 }
 
 // "what is being done" by its number and three words.
-fn doing_in(what: u32, a: u32, b: u32, c: u32) -> Doing
-    ensures { result ≡ doing_in what a b c }
-{
-    match what {
-        FORMATTING => Doing::Formatting { made: a },
-        INSERTING => Doing::Inserting {
-            key: a,
-            value: b,
-            phase: phase_in(c),
-        },
-        DELETING => Doing::Deleting {
-            key: a,
-            phase: phase_in(c),
-            value: b,
-        },
-        REPAIRING => Doing::Repairing { key: a },
-        _ => Doing::Idle,
+impl From<[u32; 4]> for Doing {
+    ghost from_gives = { λ words doing. doing ≡ doing_in (get_or words 0 0) (get_or words 1 0) (get_or words 2 0) (get_or words 3 0) };
+
+    #[tactic(auto, unfolding(crate::specs::Block::doing_in))]
+    fn from(words: [u32; 4]) -> Self {
+        let [what, a, b, c] = words;
+        match what {
+            FORMATTING => Doing::Formatting { made: a },
+            INSERTING => Doing::Inserting {
+                key: a,
+                value: b,
+                phase: Phase::from(c),
+            },
+            DELETING => Doing::Deleting {
+                key: a,
+                phase: Phase::from(c),
+                value: b,
+            },
+            REPAIRING => Doing::Repairing { key: a },
+            _ => Doing::Idle,
+        }
+    }
+}
+
+// Words 2 to 5: what is being done, and its numbers.
+impl From<Doing> for [u32; 4] {
+    ghost from_gives = { λ doing words. words ≡ doing_words doing };
+
+    #[tactic(auto, unfolding(crate::specs::Block::doing_words))]
+    fn from(doing: Doing) -> [u32; 4] {
+        match doing {
+            Doing::Idle => [IDLE, 0, 0, 0],
+            Doing::Formatting { made } => [FORMATTING, made, 0, 0],
+            Doing::Inserting { key, value, phase } => [INSERTING, key, value, u32::from(phase)],
+            Doing::Deleting { key, phase, value } => [DELETING, key, value, u32::from(phase)],
+            Doing::Repairing { key } => [REPAIRING, key, 0, 0],
+        }
     }
 }
 
@@ -151,34 +188,10 @@ pub fn head_in(block: &[u32]) -> State
     State {
         nodes: block[NODES],
         last: block[LAST],
-        doing: doing_in(block[DOING], block[FIRST], block[SECOND], block[THIRD]),
+        doing: Doing::from([block[DOING], block[FIRST], block[SECOND], block[THIRD]]),
         made: block[MADE],
         count: block[COUNT],
         cut: [block[CUT], block[CUT + 1], block[CUT + 2]],
-    }
-}
-
-// The word for how far an insert or a delete is.
-fn phase_word(phase: Phase) -> u32
-    ensures { result ≡ phase_word phase }
-{
-    match phase {
-        Phase::NotBegun => NOT_BEGUN,
-        Phase::InHand => IN_HAND,
-        Phase::Decided => DECIDED,
-    }
-}
-
-// Words 2 to 5: what is being done, and its numbers.
-fn doing_words(doing: Doing) -> [u32; 4]
-    ensures { result ≡ doing_words doing }
-{
-    match doing {
-        Doing::Idle => [IDLE, 0, 0, 0],
-        Doing::Formatting { made } => [FORMATTING, made, 0, 0],
-        Doing::Inserting { key, value, phase } => [INSERTING, key, value, phase_word(phase)],
-        Doing::Deleting { key, phase, value } => [DELETING, key, value, phase_word(phase)],
-        Doing::Repairing { key } => [REPAIRING, key, 0, 0],
     }
 }
 
@@ -187,11 +200,7 @@ pub fn store_doing(block: &mut [u32], doing: Doing)
     requires { length block.old ≡ state_words }
     ensures { block.new ≡ begun_block block.old doing }
 {
-    let words = doing_words(doing);
-    block[DOING] = words[0];
-    block[FIRST] = words[1];
-    block[SECOND] = words[2];
-    block[THIRD] = words[3];
+    block[DOING..MADE].copy_from_slice(&<[u32; 4]>::from(doing));
 }
 
 // Words 0 to 10 are stored.
@@ -199,39 +208,12 @@ pub fn store_head(block: &mut [u32], state: State)
     requires { length block.old ≡ state_words }
     ensures { block.new ≡ head_words state ++ drop 11 block.old }
 {
-    let doing = state.doing;
-    let cut = state.cut;
     block[NODES] = state.nodes;
     block[LAST] = state.last;
-    store_doing(block, doing);
+    store_doing(block, state.doing);
     block[MADE] = state.made;
     block[COUNT] = state.count;
-    block[CUT] = cut[0];
-    block[CUT + 1] = cut[1];
-    block[CUT + 2] = cut[2];
-}
-
-// All words of a slice become 0.
-fn clear_words(words: &mut [u32])
-    ensures { words.new ≡ replicate (length words.old) 0 }
-{
-    let mut i: usize = 0;
-    while i < words.len() {
-        words[i] = 0;
-        i += 1;
-    }
-}
-
-// All words of a slice become those of another, as long as it.
-pub fn copy_words(to: &mut [u32], from: &[u32])
-    requires { length to.old ≡ length from.now }
-    ensures { to.new ≡ from.now }
-{
-    let mut i: usize = 0;
-    while i < to.len() {
-        to[i] = from[i];
-        i += 1;
-    }
+    block[CUT..FREE].copy_from_slice(&state.cut);
 }
 
 // The totals by family are stored.
@@ -239,7 +221,7 @@ pub fn store_totals(block: &mut [u32], totals: &[u32])
     requires { (length block.old ≡ state_words) × (length totals.now ≡ family_count) }
     ensures { block.new ≡ over block.old totals_at totals.now }
 {
-    copy_words(&mut block[TOTALS..LINES], totals);
+    block[TOTALS..LINES].copy_from_slice(totals);
 }
 
 // Nothing is planned in a block for N nodes of a card with one line, whose words of the free nodes and of the totals are right already.
@@ -254,13 +236,9 @@ pub fn store_resting(block: &mut [u32], n: usize, last: u32, doing: Doing)
     block[LINES] = 0;
     block[NODES] = n as u32;
     block[LAST] = last;
-    block[MADE] = 0;
-    block[COUNT] = 0;
-    block[CUT] = 0;
-    block[CUT + 1] = 0;
-    block[CUT + 2] = 0;
     store_doing(block, doing);
-    clear_words(&mut block[PLACES..TOTALS]);
+    block[MADE..FREE].fill(0);
+    block[PLACES..TOTALS].fill(0);
 }
 
 // "Opening or starting to format, refused, hands back an idle state for N = 0".
@@ -268,6 +246,6 @@ pub fn refuse_beginning(block: &mut [u32], refusal: Refusal) -> Result<Begun, Re
     requires { length block.old ≡ state_words }
     ensures { Opened block.old block.new (told result) (no_beginning (number refusal)) }
 {
-    clear_words(&mut block[0..BACK]);
+    block[..BACK].fill(0);
     Err(refusal)
 }

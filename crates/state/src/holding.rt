@@ -6,16 +6,13 @@ ghost use Rattle.state.specs.declared.Doing.TheVariants.{Inserting, Deleting};
 use crate::{Answer, Doing, Held, Phase, Task};
 
 // What an insert has still to do: its first change, or repairs. "Key absent: answers absent once done."
+#[tactic(auto, unfolding(crate::specs::Steps::held_by))]
 fn held_insert(key: u32, value: u32, phase: Phase) -> Held
     ensures { result ≡ held_by (Inserting key value phase) }
 {
     match phase {
         Phase::NotBegun => Held::Task(Task::PutIn { key, value }),
-        Phase::InHand => Held::Task(Task::Repair {
-            key,
-            answer: Answer::Absent,
-        }),
-        Phase::Decided => Held::Task(Task::Repair {
+        Phase::InHand | Phase::Decided => Held::Task(Task::Repair {
             key,
             answer: Answer::Absent,
         }),
@@ -23,16 +20,13 @@ fn held_insert(key: u32, value: u32, phase: Phase) -> Held
 }
 
 // What a delete has still to do: "key word to 0, answers the value".
+#[tactic(auto, unfolding(crate::specs::Steps::held_by))]
 fn held_delete(key: u32, phase: Phase, value: u32) -> Held
     ensures { result ≡ held_by (Deleting key phase value) }
 {
     match phase {
         Phase::NotBegun => Held::Task(Task::TakeOut { key }),
-        Phase::InHand => Held::Task(Task::Repair {
-            key,
-            answer: Answer::Value(value),
-        }),
-        Phase::Decided => Held::Task(Task::Repair {
+        Phase::InHand | Phase::Decided => Held::Task(Task::Repair {
             key,
             answer: Answer::Value(value),
         }),
@@ -40,6 +34,7 @@ fn held_delete(key: u32, phase: Phase, value: u32) -> Held
 }
 
 // What a state holds that is doing this. The repair of opening ends in "ready".
+#[tactic(auto, unfolding(crate::specs::Steps::held_by))]
 pub fn held_by(doing: Doing) -> Held
     ensures { result ≡ held_by doing }
 {
