@@ -153,13 +153,10 @@ pub fn find_leaf(card: &[u32], n: usize, key: u32, root: usize) -> Option<Reache
         }
         let node = card::node_at(card, m);
         match go_down(node, key) {
-            Down::Nowhere => {
-                return None;
-            }
             Down::Leaf => {
                 return Some(Reached { node: m, depth });
             }
-            Down::Childless => {
+            Down::Nowhere | Down::Childless => {
                 return None;
             }
             Down::Inner { index: _, child } => {
