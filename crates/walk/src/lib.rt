@@ -92,7 +92,7 @@ pub enum Down {
 // (docs/DECISIONS.md, "The loops for it"). It takes the words of the node, and not the card and a number: it is then compiled into each
 // loop, and its own pass over the routing keys unrolled there. Where it makes the part itself, it is unrolled first, and so long that it
 // is called.
-#[tactic(auto, using(crate::proofs::DescentLaws::index_le, crate::proofs::DescentLaws::down_childless, crate::proofs::DescentLaws::down_inner), unfolding(crate::specs::Descent::down_in, crate::specs::Descent::down_by))]
+#[tactic(auto, using(crate::proofs::DescentLaws::index_le, crate::proofs::DescentLaws::down_childless, crate::proofs::DescentLaws::down_inner))]
 fn go_down(node: &[u32], key: u32) -> Down
     requires { length node.now ≡ 24 }
     ensures { result ≡ down_in node.now key }
@@ -153,13 +153,10 @@ pub fn find_leaf(card: &[u32], n: usize, key: u32, root: usize) -> Option<Reache
         }
         let node = card::node_at(card, m);
         match go_down(node, key) {
-            Down::Nowhere => {
-                return None;
-            }
             Down::Leaf => {
                 return Some(Reached { node: m, depth });
             }
-            Down::Childless => {
+            Down::Nowhere | Down::Childless => {
                 return None;
             }
             Down::Inner { index: _, child } => {
