@@ -42,6 +42,7 @@ pub fn write_dump(card: &[u32], bytes: &mut [u8], greatest: usize) -> Result<usi
 }
 
 // The length in bytes of the dump of so many words.
+#[tactic(auto, unfolding(crate::specs::Dump::padded_length))]
 fn padded_length(words: usize) -> usize
     requires { words ≤ words_for greatest_nodes }
     ensures { result ≡ padded_length words }
@@ -53,7 +54,7 @@ fn padded_length(words: usize) -> usize
 fn is_damaged(dump: &[u8], greatest: usize) -> bool
     ensures { result ≡ damaged greatest dump.now }
 {
-    if dump.len() == 0 {
+    if dump.is_empty() {
         return true;
     }
     if dump.len() % 512 != 0 {
@@ -88,6 +89,7 @@ fn is_zero(padding: &[u8]) -> bool
 }
 
 // Eight bytes as one 64-bit number: 0 exactly when all eight are.
+#[tactic(auto, unfolding(crate::specs::Dump::word_at))]
 fn eight(bytes: &[u8; 8]) -> u64
     ensures { result ≡ eight_at bytes.now 0 }
 {
@@ -95,6 +97,7 @@ fn eight(bytes: &[u8; 8]) -> u64
 }
 
 // Word i of a dump, "low byte first".
+#[tactic(auto, unfolding(crate::specs::Dump::word_at))]
 fn word_at(dump: &[u8], i: usize) -> u32
     requires { 4 * i + 4 ≤ length dump.now }
     ensures { result ≡ word_at dump.now i }

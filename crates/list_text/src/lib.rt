@@ -1,6 +1,6 @@
 // What the program `list` does: it reads a dump from standard input, opens and repairs it in memory, and prints it
-// (document 01, "Dumps and the list program"; document 02, W-204). The text is made in a row of bytes before it is written, so that the program
-// `test_replay` compares the very text that `list` prints.
+// (document 01, "Dumps and the list program"; document 02, W-204). The text is made in a row of bytes before it is written, so that
+// the program `test_replay` compares the very text that `list` prints.
 
 #![tactic(auto)]
 

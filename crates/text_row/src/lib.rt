@@ -40,6 +40,7 @@ pub fn put_line(text: &mut [u8], word: &[u8], number: u32) -> usize
 }
 
 // "Refused, it prints `refused ` and the number only."
+#[tactic(auto, unfolding(crate::specs::Lines::refusal_line, crate::specs::Lines::refused_word))]
 pub fn put_refusal(text: &mut [u8], refusal: u32) -> usize
     requires { 19 ≤ length text.old }
     ensures text_after { filled result text.new ≡ fill (refusal_line refusal) (filled 0 text.old) }

@@ -1,4 +1,4 @@
-use Rattle.std.proofs.Common.{◌≡◌, ℕ, ◌+◌, ◌*◌, drop, sym, ap, ◌∙◌, arith, rules, length-drop}
+use Rattle.std.proofs.Common.{◌≡◌, ℕ, ◌+◌, ◌*◌, drop, sym, ap, ◌∙◌, arith, rules, length-drop, eqb-true}
 use Rattle.std.proofs.Math.Seq.{take_all}
 use Rattle.laws.specs.Lists.{all_zero}
 use Rattle.card_dump.specs.Dump.{padded_length, words_for, dump_nodes}
@@ -10,8 +10,8 @@ use Rattle.card_dump.proofs.is_damaged.Goals.{After-padded_length-2}
 padded : (c : After-padded_length-2) → padded_length (words_for (dump_nodes c.args.dump.now)) ≡ c.padded_length-2.result
 padded c = ap (λ (k : ℕ). padded_length (words_for k)) (sym c.word_at-n.ensures) ∙ sym c.padded_length-2.ensures
 
-pub returns-then-dump-eq0 : goal.returns-then-dump-eq0
-returns-then-dump-eq0 c = sym (damaged_empty _ _ c.if-dump-eq0.true)
+pub returns-then-is_empty : goal.returns-then-is_empty
+returns-then-is_empty c = sym (damaged_empty _ _ (eqb-true _ _ (sym c.is_empty.ensures ∙ c.if-is_empty.true)))
 
 pub returns-then-dump-ne0 : goal.returns-then-dump-ne0
 returns-then-dump-ne0 c = sym (damaged_odd _ _ c.if-dump-ne0.true)
