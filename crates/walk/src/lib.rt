@@ -31,18 +31,15 @@ fn child_index(node: &[u32], key: u32) -> usize
     requires { (length node.now ≡ 24) × (get_or node.now 12 0 ≡ 0 → ⊥) }
     ensures { result ≡ child_index node.now key }
 {
-    let mut i: usize = 0;
-    // by hand: ten words at most, and the bound is read off the part, since with a constant the loop is not compiled into a find's own
-    while i + 14 < node.len() {
+    for i in 0..card::SLOTS - 1 {
         if key < node[card::KEYS + i] {
             return i;
         }
         if node[card::SECOND_CHILD + i] == 0 {
             return i;
         }
-        i += 1;
     }
-    i
+    card::SLOTS - 1
 }
 
 // "9: node number 0 or above N"
@@ -89,9 +86,8 @@ pub enum Down {
 }
 
 // Every loop down the card goes by this: four loops, each with what it alone carries, since a find through another's is slower
-// (docs/DECISIONS.md, "The loops for it"). It takes the words of the node, and not the card and a number: it is then compiled into each
-// loop, and its own pass over the routing keys unrolled there. Where it makes the part itself, it is unrolled first, and so long that it
-// is called.
+// (docs/DECISIONS.md, "The loops for it"). Compiled into each, since a call for each node took a third of a find's instructions.
+#[inline(always)]
 #[tactic(auto, using(crate::proofs::DescentLaws::index_le, crate::proofs::DescentLaws::down_childless, crate::proofs::DescentLaws::down_inner))]
 fn go_down(node: &[u32], key: u32) -> Down
     requires { length node.now ≡ 24 }

@@ -26,4 +26,4 @@ loop-i-preserved c =
     (omega arith, more, l.invariant.2 ∙ index_next _ c.requires.0 _ _ more c.if-key-node.false)
 
 pub returns : goal.returns
-returns c = sym (c.loop-i.invariant.2 ∙ index_last _ c.requires.0 _ _ (omega (arith, children_le c.args.node.now)))
+returns c = let ten : 10 ≡ c.loop-i.i = omega arith in ten ∙ sym (c.loop-i.invariant.2 ∙ index_last _ c.requires.0 _ _ (omega (arith, children_le c.args.node.now)))

@@ -6,6 +6,3 @@ use Rattle.walk.proofs.child_index.Given as goal
 
 abbrev pub invariant-loop-i : goal.invariant-loop-i
 invariant-loop-i l = (l.i ≤ 10) × (l.i < length (children l.node)) × (child_index l.node l.key ≡ index_from l.node l.key l.i)
-
-abbrev pub decreases-loop-i : goal.decreases-loop-i
-decreases-loop-i l = 10 - l.i
