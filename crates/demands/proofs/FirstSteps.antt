@@ -228,7 +228,10 @@ module _ (greatest : ℕ) (c : List ℕ) (m : Memory) (key before : ℕ) (d : m.
   unfolding landed
   delete_at_lem s None e = inl (sym (leads_is c m.nodes key (sized_on greatest c m.nodes s)) ∙ ap landed e, rw (delete_no_way e) (refused_same greatest 9 c m))
   delete_at_lem s (Some l) e =
-      inr (λ z. none_some (l.node, l.run) (sym z ∙ sym (leads_is c m.nodes key (sized_on greatest c m.nodes s)) ∙ ap landed e), delete_slot s l.node l.link l.run e (slot_of (node_at c l.node) key) refl)
+      inr (
+        λ z. none_some (l.node, l.run) (sym z ∙ sym (leads_is c m.nodes key (sized_on greatest c m.nodes s)) ∙ ap landed e),
+        delete_slot s l.node l.link l.run e (slot_of (node_at c l.node) key) refl,
+      )
 
 -- ---- a repair
 
