@@ -13,18 +13,19 @@ use call_step::step;
 use state::Begun;
 use state::block::is_idle;
 
-// Steps until the state is idle. A repair takes at most 73 stores for each level, and one step for its answer.
+// A repair takes at most 73 stores for each level, and one step for its answer.
+const MOST_STEPS: usize = card::PLAN_SIZE * card::DEPTH_LIMIT + 1;
+
+// Steps until the state is idle.
 fn repair(card: &mut [u32], state: &mut [u32], greatest: usize)
     requires { length state.old ≡ state_words }
     ensures { left_by card.new state.new ≡ repaired_card greatest repair_steps card.old (memory_in state.old) }
 {
-    let mut left: usize = card::PLAN_SIZE * card::DEPTH_LIMIT + 1;
-    while 0 < left {
+    for _ in 0..MOST_STEPS {
         if is_idle(state) {
             return;
         }
         step(card, state, card::FIRST_LINE, greatest);
-        left -= 1;
     }
 }
 

@@ -24,7 +24,7 @@ use call_change::next_change;
 use change_decide::Decision;
 use change_layout::{Size, cut_of, lay_places, lay_values, size_of};
 use change_plan::Outcome;
-use change_plan::numbers::{Given, give, take};
+use change_plan::numbers::{give, take};
 use state::block::{DEPTH, FREE, LAST, NODES, PLACES, VALUES, head_in, store_head, wide};
 use state::{Answer, Doing, Held, State, Task, held_by};
 
@@ -75,17 +75,13 @@ fn step_change(
         (step_prepared (seen line card.old) (memory_in state.old) doing final
         (lay_out (seen line card.old) decision (memory_in state.old).free (memory_in state.old).last)) }
 {
-    let Given::Nodes { left, right, above } = give(
-        &state[FREE..PLACES],
-        wide(state[LAST]),
-        size.nodes,
-    ) else {
+    let Some(nodes) = give(&state[FREE..PLACES], wide(state[LAST]), size.nodes) else {
         return Answer::Refused(9);
     };
-    if state[NODES] < left {
+    if state[NODES] < nodes[0] {
         return Answer::Refused(9);
     }
-    plan(card, state, doing, decision, size, [left, right, above]);
+    plan(card, state, doing, decision, size, nodes);
     let place = state[PLACES];
     if store_word(card, state, 0, wide(place)) {
         return Answer::Stored(place);
