@@ -37,9 +37,6 @@ part_small b from n w i =
 
 -- ---- the state made idle
 
-pub cut_cleared : (b : List ℕ) → 11 ≤ length b → set (set (set b 8 0) 9 0) 10 0 ≡ over b 8 (0 ∷ 0 ∷ 0 ∷ [])
-cut_cleared b h = by_head (λ (x : List ℕ). set (set (set x 8 0) 9 0) 10 0 ≡ over x 8 (0 ∷ 0 ∷ 0 ∷ [])) b h (λ a b c d e f g i j k l rest. refl)
-
 pub idled_stored : (b : List ℕ) → 11 ≤ length b
     → over (set (set (set (set (set (set b 2 0) 3 0) 4 0) 5 0) 6 0) 7 0) 8 (0 ∷ 0 ∷ 0 ∷ []) ≡ idled_block b
 unfolding idled_block

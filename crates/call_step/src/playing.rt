@@ -27,10 +27,7 @@ fn clear_task(state: &mut [u32])
     requires { length state.old ≡ state_words }
     ensures { state.new ≡ set (set (set (set state.old 2 0) 3 0) 4 0) 5 0 }
 {
-    state[DOING] = IDLE;
-    state[FIRST] = 0;
-    state[SECOND] = 0;
-    state[THIRD] = 0;
+    state[DOING..MADE].fill(0);
 }
 
 // "or gives the final answer and makes the state idle": the rows are left as they are.
@@ -61,14 +58,12 @@ fn free_cut(state: &mut [u32])
     ensures { state.new ≡ over state.old 11
         (words_of word_count (with_all (before_zero (part state.old 8 3)) (nodes_of (part state.old free_at word_count)))) }
 {
-    let mut i: usize = 0;
-    while i < 3 {
-        let m = wide(state[CUT + i]);
+    for i in 0..3 {
+        let m = state[CUT + i] as usize;
         if m == 0 {
             return;
         }
         free_node(&mut state[FREE..PLACES], m);
-        i += 1;
     }
 }
 
@@ -77,9 +72,7 @@ fn clear_cut(state: &mut [u32])
     requires { length state.old ≡ state_words }
     ensures { state.new ≡ over state.old 8 (0 ∷ 0 ∷ 0 ∷ []) }
 {
-    state[CUT] = 0;
-    state[CUT + 1] = 0;
-    state[CUT + 2] = 0;
+    state[CUT..FREE].fill(0);
 }
 
 // The pair of an insert or a delete is counted in or out of its family's total.

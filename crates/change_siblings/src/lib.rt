@@ -23,11 +23,6 @@ use change_rows::words::Row;
 use together::gather_siblings;
 use walk::Position;
 
-// Where a parent has the left one of two siblings and the one after it, counted from the left one's index.
-const LEFT: usize = card::VALUES;
-
-const RIGHT: usize = card::VALUES + 1;
-
 // A new copy of the parent. In the place of the two siblings it has the first of the nodes given, in the place of the routing key
 // between them the keys between these, one fewer; the node given next is the copy.
 fn copy_parent(card: &[u32], p: Position, keys: &[u32], nodes: [u32; 3], words: &mut [u32])
@@ -50,7 +45,11 @@ pub fn cut_siblings(card: &[u32], p: Position) -> [u32; 3]
 {
     let parent = card::node_at(card, p.parent);
     let j = left_sibling(p);
-    [p.parent as u32, parent[LEFT + j], parent[RIGHT + j]]
+    [
+        p.parent as u32,
+        parent[card::VALUES + j],
+        parent[card::SECOND_CHILD + j],
+    ]
 }
 
 // The two nodes that share what the siblings hold, at the front of the row, and the key between them.
@@ -73,7 +72,12 @@ fn lay_merged(card: &[u32], p: Position, words: &mut [u32])
         ≡ node_image (together_at card.now p).kind (together_at card.now p).keys (together_at card.now p).values }
 {
     let held = gather_siblings(card, p);
-    write_node(words, held.kind, held.keys.as_slice(), held.beside.as_slice());
+    write_node(
+        words,
+        held.kind,
+        held.keys.as_slice(),
+        held.beside.as_slice(),
+    );
 }
 
 // "Together 4 or more: shared out .. under a new copy of the parent."

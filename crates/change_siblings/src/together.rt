@@ -68,6 +68,6 @@ pub fn gather_siblings(card: &[u32], p: Position) -> Held
     if x[0] == LEAF {
         gather_leaves(x, y)
     } else {
-        gather_inners(x, parent[1 + j], y)
+        gather_inners(x, parent[card::KEYS + j], y)
     }
 }

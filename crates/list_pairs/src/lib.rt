@@ -16,7 +16,7 @@ use card_check::{FOUND_WORDS, TOTALS};
 use card_family::FAMILIES;
 use pairs::put_pairs;
 use state::Begun;
-use state::block::{STATE_WORDS, copy_words};
+use state::block::STATE_WORDS;
 
 // "First line: N, free nodes, internal levels, pairs", and what each family holds (document 02, W-204), or the refusal, which is 0 where
 // there is none. Of the lent slice the first `words` words hold the pairs, key and value.
@@ -50,7 +50,7 @@ fn totals_found(found: &[u32]) -> [u32; FAMILIES]
     ensures { result ≡ drop 3 found.now }
 {
     let mut totals = [0u32; FAMILIES];
-    copy_words(&mut totals, &found[TOTALS..FOUND_WORDS]);
+    totals.copy_from_slice(&found[TOTALS..FOUND_WORDS]);
     totals
 }
 
