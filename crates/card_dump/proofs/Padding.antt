@@ -1,16 +1,15 @@
 -- Laws of eight bytes read as one number: it is 0 exactly when all eight are.
-use mathlib.Core.Path.{◌≡◌, refl, ap, sym, ◌∙◌}
-use mathlib.Core.Bool.{false}
+use mathlib.Core.Path.{◌≡◌, refl, ap, ap₂, sym, ◌∙◌}
+use mathlib.Core.Bool.{Bool, true, false, ◌&&◌}
 use mathlib.Core.List.{List, [], ◌∷◌}
 use mathlib.Core.Logic.{◌↔◌}
-use Prim.Native.Nat.{ℕ, zero, suc, ◌+◌, ◌-◌, ◌*◌, ◌%◌, ◌≤◌, ◌<◌}
+use Prim.Native.Nat.{ℕ, zero, suc, ◌+◌, ◌-◌, ◌*◌, ◌/◌, ◌%◌, ◌≤◌, ◌<◌}
 use native.Mathlib.Omega.{arith}
-use lib.ListN.{length, get_or, take, drop, length-drop}
+use lib.ListN.{length, get_or, take, drop, drop_of_length-le, length-drop}
 use lib.Dec.{eqb}
-use borrow.Author.Tests.{eqb-true, eqb-false}
-use Rattle.std.specs.List.{list_all}
+use borrow.Author.Tests.{ne_eqb, eqb-true, eqb-false}
 use Rattle.std.specs.Simd.{first_chunks}
-use lib.Seq.{get_or-drop, get_or-take}
+use lib.Seq.{drop-cons, drop-drop, get_or-drop, get_or-take}
 use Rattle.laws.proofs.Cases.{bool_cases, order}
 use Rattle.laws.specs.Lists.{all_zero}
 use Rattle.laws.proofs.Lists.{get_d_all_zero}
@@ -79,6 +78,11 @@ pub padding_eights : (n : ℕ) → (padded_length (words_for n) - 4 * words_for 
 unfolding padded_length
 padding_eights n = omega arith
 
+-- whether each eight bytes are 0, as that number
+abbrev pub zero_eights : List (List ℕ) → Bool
+zero_eights [] = true
+zero_eights (bytes ∷ more) = eqb (eight_at bytes 0) 0 && zero_eights more
+
 -- eight bytes are the first eight of any that begin with them
 eight_first : (bytes : List ℕ) → eight_at (take 8 bytes) 0 ≡ eight_at bytes 0
 unfolding word_at
@@ -96,12 +100,36 @@ eight_first bytes =
       at 7 (omega arith),
     )
 
--- all of the padding is 0 exactly when each eight bytes are
-pub zero_by_eights : (n : ℕ) (bytes : List ℕ) → length bytes ≡ 8 * n → list_all (λ e. eqb (eight_at e 0) 0) (first_chunks 8 n bytes) ≡ all_zero bytes
+-- those from an eight on
+eights_from : (n k : ℕ) (bytes : List ℕ) → drop k (first_chunks 8 n bytes) ≡ first_chunks 8 (n - k) (drop (8 * k) bytes)
+eights_from n zero bytes = ap (λ (m : ℕ). first_chunks 8 m bytes) (let z : n ≡ n - 0 = omega arith in z)
+eights_from zero (suc k) bytes = ap (λ (m : ℕ). first_chunks 8 m (drop (8 * suc k) bytes)) (let z : 0 ≡ 0 - suc k = omega arith in z)
+eights_from (suc n) (suc k) bytes =
+    eights_from n k (drop 8 bytes)
+    ∙ ap₂ (λ (m : ℕ) (l : List ℕ). first_chunks 8 m l) (let z : n - k ≡ suc n - suc k = omega arith in z)
+    (drop-drop (8 * k) 8 bytes ∙ ap (λ (i : ℕ). drop i bytes) (let z : 8 + 8 * k ≡ 8 * suc k = omega arith in z))
+
+-- all bytes are 0 exactly when each eight are
+zero_by_eights : (n : ℕ) (bytes : List ℕ) → length bytes ≡ 8 * n → zero_eights (first_chunks 8 n bytes) ≡ all_zero bytes
 zero_by_eights zero [] h = refl
 zero_by_eights zero (x ∷ bytes) h = absurd (omega arith)
 zero_by_eights (suc n) bytes h =
-    let next : list_all (λ e. eqb (eight_at e 0) 0) (first_chunks 8 n (drop 8 bytes)) ≡ all_zero (drop 8 bytes) = zero_by_eights n (drop 8 bytes) (omega (arith, length-drop 8 bytes)) in
+    let next : zero_eights (first_chunks 8 n (drop 8 bytes)) ≡ all_zero (drop 8 bytes) = zero_by_eights n (drop 8 bytes) (omega (arith, length-drop 8 bytes)) in
     bool_cases (eqb (eight_at bytes 0) 0)
     (λ t. rw (eight_first bytes, t, next) (sym (eight_passed bytes 0 (omega arith) (eqb-true _ _ t))))
     (λ f. rw (eight_first bytes, f) (sym (eight_found bytes 0 (omega arith) (eqb-false _ _ f))))
+
+pub zero_from : (dump : List ℕ) (k : ℕ) → length dump % 8 ≡ 0 → zero_eights (drop k (first_chunks 8 (length dump / 8) dump)) ≡ all_zero (drop (8 * k) dump)
+zero_from dump k h =
+    ap zero_eights (eights_from (length dump / 8) k dump) ∙ zero_by_eights (length dump / 8 - k) (drop (8 * k) dump) (omega (arith, length-drop (8 * k) dump))
+
+-- an eight that is not 0, and none left
+pub eight_stops : (eights : List (List ℕ)) (k : ℕ) → k < length eights → (eight_at (get_or eights k []) 0 ≡ 0 → ⊥) → zero_eights (drop k eights) ≡ false
+eight_stops eights k h d = rw (drop-cons eights k [] h, ne_eqb (eight_at (get_or eights k []) 0) 0 d)
+
+pub eights_end : (eights : List (List ℕ)) (k : ℕ) → length eights ≤ k → zero_eights (drop k eights) ≡ true
+eights_end eights k h = rw (drop_of_length-le eights {i = k} h)
+
+-- and the padding begins at a multiple of 8
+pub padding_start : (n : ℕ) → 8 * (words_for n / 2) ≡ 4 * words_for n
+padding_start n = omega arith

@@ -76,16 +76,22 @@ fn is_damaged(dump: &[u8], greatest: usize) -> bool
     if padded_length(words) != dump.len() {
         return true;
     }
-    !is_zero(&dump[4 * words..])
+    !is_zero(dump, words / 2)
 }
 
-// Whether all bytes of the padding are 0, eight at a time (document 02, W-202).
-fn is_zero(padding: &[u8]) -> bool
-    requires { length padding.now % 8 ≡ 0 }
-    ensures { result ≡ all_zero padding.now }
+// Whether all bytes from number 8 × `from` on are 0, eight at a time (document 02, W-202). By the number of the eight: over the part
+// `&eights[from..]`, by `for` or by `all`, the compiler does not unroll it, and reading takes 8 to 20 instructions more.
+fn is_zero(dump: &[u8], from: usize) -> bool
+    requires { length dump.now % 8 ≡ 0 }
+    ensures { result ≡ all_zero (drop (8 * from) dump.now) }
 {
-    let (eights, _) = padding.as_chunks::<8>();
-    eights.iter().all(|bytes| eight(bytes) == 0)
+    let (eights, _) = dump.as_chunks::<8>();
+    for k in from..eights.len() {
+        if eight(&eights[k]) != 0 {
+            return false;
+        }
+    }
+    true
 }
 
 // Eight bytes as one 64-bit number: 0 exactly when all eight are.

@@ -1,8 +1,8 @@
-use Rattle.std.proofs.Common.{◌≡◌, ℕ, ◌+◌, ◌*◌, drop, sym, ap, ◌∙◌, arith, rules, length-drop, eqb-true}
-use Rattle.std.proofs.Math.Seq.{take_all}
+use Rattle.std.proofs.Common.{◌≡◌, ℕ, ◌*◌, drop, sym, ap, ◌∙◌, arith, eqb-true}
 use Rattle.laws.specs.Lists.{all_zero}
 use Rattle.card_dump.specs.Dump.{padded_length, words_for, dump_nodes}
-use Rattle.card_dump.proofs.AnswerLaws.{padded_covers, damaged_empty, damaged_odd, damaged_long, damaged_few, damaged_many, damaged_length, padding_decides}
+use Rattle.card_dump.proofs.AnswerLaws.{damaged_empty, damaged_odd, damaged_long, damaged_few, damaged_many, damaged_length, padding_decides}
+use Rattle.card_dump.proofs.Padding.{padding_start}
 use Rattle.card_dump.proofs.is_damaged.Goals as goal
 use Rattle.card_dump.proofs.is_damaged.Goals.{After-padded_length-2}
 
@@ -30,14 +30,9 @@ pub returns-then-padded_length-dump-2 : goal.returns-then-padded_length-dump-2
 returns-then-padded_length-dump-2 c =
     sym (damaged_length _ _ (λ e. c.if-padded_length-dump-2.true (sym (padded (goal.at.returns-then-padded_length-dump-2 c).After-padded_length-2) ∙ e)))
 
-pub slice_bounds-is_zero-count : goal.slice_bounds-is_zero-count
-slice_bounds-is_zero-count c = omega (arith, padded_covers (8 + 24 * c.word_at-n.result), c.padded_length-2.ensures)
-
-pub slice_bounds-is_zero-start : goal.slice_bounds-is_zero-start
-slice_bounds-is_zero-start c = let inside = padded_covers (8 + 24 * c.word_at-n.result) in search rules
-
 pub returns : goal.returns
 returns c =
+    let dump = c.args.dump.now in
     padding_decides _ _ (omega arith) (omega (arith, c.limit-most.ensures.0)) (padded (goal.at.returns c).After-padded_length-2 ∙ c.if-padded_length-dump-2.false)
-    _ (c.is_zero.ensures ∙ ap all_zero (take_all _ (drop (4 * words_for c.word_at-n.result) c.args.dump.now) (omega (arith, length-drop (4 * words_for c.word_at-n.result) c.args.dump.now)))
-    ∙ ap (λ (k : ℕ). all_zero (drop (4 * words_for k) c.args.dump.now)) c.word_at-n.ensures)
+    _ (c.is_zero.ensures ∙ ap (λ (i : ℕ). all_zero (drop i dump)) (padding_start c.word_at-n.result)
+    ∙ ap (λ (k : ℕ). all_zero (drop (4 * words_for k) dump)) c.word_at-n.ensures)
