@@ -22,9 +22,9 @@ returns-then-not-is_node c =
     let left = ap (is_node c.args.n) (sym (left_read parent c.args.p _ c.left_sibling-j.ensures beside)) ∙ sym c.is_node.ensures in
     let right = ap (is_node c.args.n) (sym (right_read parent c.args.p _ c.left_sibling-j.ensures beside)) in
     elim c.then-not-is_node.branch [
-      then-not-is_node-via-then-not-is_node w ↦ sym (underfull_left_off _ _ _ _ beside (left ∙ w.if-not-is_node.true))
-    | then-not-is_node-via-else-not-is_node+then-not-is_node-2 w ↦
-      sym (underfull_right_off _ _ _ _ beside (left ∙ w.if-not-is_node.false) (right ∙ sym w.is_node-else-not-is_node.ensures ∙ w.if-not-is_node-2.true))
+      | then-not-is_node-via-then-not-is_node w ↦ sym (underfull_left_off _ _ _ _ beside (left ∙ w.if-not-is_node.true))
+      | then-not-is_node-via-else-not-is_node+then-not-is_node-2 w ↦
+          sym (underfull_right_off _ _ _ _ beside (left ∙ w.if-not-is_node.false) (right ∙ sym w.is_node-else-not-is_node.ensures ∙ w.if-not-is_node-2.true))
     ]
 
 pub node_at-requires : goal.node_at-requires
