@@ -1,7 +1,7 @@
 -- Which change is due, case by case: one law for each branch of the code.
 use mathlib.Core.Path.{◌≡◌, refl, ap, sym, ◌∙◌}
 use mathlib.Core.List.{List}
-use mathlib.Core.Bool.{Bool, true, false, ◌&&◌}
+use mathlib.Core.Bool.{true, false, ◌&&◌}
 use Prim.Native.Nat.{ℕ, suc, ◌+◌, ◌≤◌, ◌<◌}
 use native.Mathlib.Omega.{arith}
 use lib.ListN.{length, get_or, drop}
@@ -15,20 +15,9 @@ use Rattle.change_decide.specs.Decide.{decide_tagged, decide_together, decide_si
 use Rattle.change_decide.specs.declared.Decision.TheVariants.{Refused, Absorb, SplitParent, Share, Merge, MergeRoot}
 use Rattle.walk.specs.declared.Position.{Position}
 
--- a test and then another, decided by the first
-pub and_second : (a b : Bool) → a ≡ true → b ≡ (a && b)
-and_second a b e = rw e
-
-pub and_first : (a b : Bool) → a ≡ false → a ≡ (a && b)
-and_first a b e = rw e
-
 -- ---- a tagged node
 
 module _ (p : Position) (parent tagged : List ℕ) where
-  pub tagged_refused : (length (children tagged) ≡ 2 → ⊥) → decide_tagged p parent tagged ≡ Refused
-  unfolding decide_tagged
-  tagged_refused h = rw (ne_eqb _ 2 h)
-
   pub tagged_absorbed : length (children tagged) ≡ 2 → length (children parent) ≤ 10 → decide_tagged p parent tagged ≡ Absorb p
   unfolding decide_tagged
   tagged_absorbed h l = rw (eq-eqb _ 2 h, le-leb _ 10 l)
@@ -40,10 +29,6 @@ module _ (p : Position) (parent tagged : List ℕ) where
 -- ---- two siblings
 
 module _ (p : Position) (parent : List ℕ) (count : ℕ) where
-  pub together_many : 12 < count → decide_together p parent count ≡ Refused
-  unfolding decide_together
-  together_many h = rw (lt-ltb 12 _ h)
-
   pub together_shared : count ≤ 12 → 4 ≤ count → decide_together p parent count ≡ Share p
   unfolding decide_together
   together_shared h l = rw (le-ltb 12 _ h, le-leb 4 _ l)
@@ -61,20 +46,6 @@ module _ (p : Position) (parent x y : List ℕ) where
   unfolding decide_siblings
   siblings_leaves t = rw t
 
-  pub siblings_mixed : (eqb (kind_of x) 1 && eqb (kind_of y) 1) ≡ false → (eqb (kind_of x) 2 && eqb (kind_of y) 2) ≡ false → decide_siblings p parent x y ≡ Refused
-  unfolding decide_siblings
-  siblings_mixed t u = rw (t, u)
-
-  pub siblings_left_bare : (eqb (kind_of x) 1 && eqb (kind_of y) 1) ≡ false → (eqb (kind_of x) 2 && eqb (kind_of y) 2) ≡ true → length (children x) ≡ 0
-      → decide_siblings p parent x y ≡ Refused
-  unfolding decide_siblings
-  siblings_left_bare t u h = rw (t, u, h)
-
-  pub siblings_right_bare : (eqb (kind_of x) 1 && eqb (kind_of y) 1) ≡ false → (eqb (kind_of x) 2 && eqb (kind_of y) 2) ≡ true
-      → 0 < length (children x) → length (children y) ≡ 0 → decide_siblings p parent x y ≡ Refused
-  unfolding decide_siblings
-  siblings_right_bare t u h l = rw (t, u, lt-ltb 0 _ h, l)
-
   pub siblings_inners : (eqb (kind_of x) 1 && eqb (kind_of y) 1) ≡ false → (eqb (kind_of x) 2 && eqb (kind_of y) 2) ≡ true
       → 0 < length (children x) → 0 < length (children y) → decide_siblings p parent x y ≡ decide_together p parent (length (children x) + length (children y))
   unfolding decide_siblings
@@ -82,7 +53,7 @@ module _ (p : Position) (parent x y : List ℕ) where
 
 -- ---- a node with a sibling
 
--- `!` in code
+-- a node's number is one on the card
 pub node_numbered : (n m : ℕ) → is_node n m ≡ true → (1 ≤ m) × (m ≤ n)
 unfolding is_node
 node_numbered n m e = let t = and_true (ltb 0 m) (leb m n) e in (ltb-true 0 m t.0, leb-true m n t.1)
@@ -94,10 +65,6 @@ child_read node i w e h =
     ∙ get_or-take (length (children node)) (drop 12 node) i 0 h ∙ get_or-drop 12 node i 0 ∙ ap (λ (a : ℕ). get_or node a 0) (sym e))
 
 module _ (card : List ℕ) (n : ℕ) (p : Position) (parent : List ℕ) where
-  pub underfull_alone : length (children parent) ≤ suc (left_sibling p) → decide_underfull card n p parent ≡ Refused
-  unfolding decide_underfull
-  underfull_alone h = rw (le-ltb (suc (left_sibling p)) (length (children parent)) h)
-
   pub underfull_left_off : suc (left_sibling p) < length (children parent) → is_node n (left_number parent p) ≡ false → decide_underfull card n p parent ≡ Refused
   unfolding decide_underfull
   underfull_left_off h e = rw (lt-ltb (suc (left_sibling p)) (length (children parent)) h, e)
@@ -115,10 +82,6 @@ module _ (card : List ℕ) (n : ℕ) (p : Position) (parent : List ℕ) where
 -- ---- the repair at a position
 
 module _ (card : List ℕ) (n : ℕ) (p : Position) where
-  pub decided_refused : (kind_of (node_at card p.parent) ≡ 2 → ⊥) → decide_at card n p ≡ Refused
-  unfolding decide_at
-  decided_refused h = rw (ne_eqb _ 2 h)
-
   pub decided_tagged : kind_of (node_at card p.parent) ≡ 2 → kind_of (node_at card p.node) ≡ 3
       → decide_at card n p ≡ decide_tagged p (node_at card p.parent) (node_at card p.node)
   unfolding decide_at

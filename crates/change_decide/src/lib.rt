@@ -50,6 +50,7 @@ pub enum Decision {
 }
 
 // "Tagged node: parent with at most 10 children .. Parent with 11 ..". One that has not 2 children is refused.
+#[tactic(auto, unfolding(crate::specs::Decide::decide_tagged))]
 fn decide_tagged(p: Position, parent: &[u32], tagged: &[u32]) -> Decision
     requires { (length parent.now ≡ 24) × (length tagged.now ≡ 24) }
     ensures { result ≡ decide_tagged p parent.now tagged.now }
@@ -73,6 +74,7 @@ fn is_root_of_two(p: Position, parent: &[u32]) -> bool
 }
 
 // "Together 4 or more: shared out .. Together 3 or fewer: merged", by the number of pairs or children that there are together.
+#[tactic(auto, unfolding(crate::specs::Decide::decide_together))]
 fn decide_together(p: Position, parent: &[u32], count: usize) -> Decision
     requires { length parent.now ≡ 24 }
     ensures { result ≡ decide_together p parent.now count }
@@ -98,6 +100,7 @@ fn both_are(x: &[u32], y: &[u32], kind: u32) -> bool
 }
 
 // Siblings are of one kind, and internal ones have children; others are refused.
+#[tactic(auto, unfolding(crate::specs::Decide::decide_siblings))]
 fn decide_siblings(p: Position, parent: &[u32], x: &[u32], y: &[u32]) -> Decision
     requires { (length parent.now ≡ 24) × (length x.now ≡ 24) × (length y.now ≡ 24) }
     ensures { result ≡ decide_siblings p parent.now x.now y.now }
@@ -109,17 +112,15 @@ fn decide_siblings(p: Position, parent: &[u32], x: &[u32], y: &[u32]) -> Decisio
         return Decision::Refused;
     }
     let left = card::child_count(x);
-    if left == 0 {
-        return Decision::Refused;
-    }
     let right = card::child_count(y);
-    if right == 0 {
+    if left == 0 || right == 0 {
         return Decision::Refused;
     }
     decide_together(p, parent, left + right)
 }
 
 // A node number that is on a card of n nodes.
+#[tactic(auto, unfolding(crate::specs::Decide::is_node))]
 fn is_node(n: usize, m: usize) -> bool
     ensures { result ≡ is_node n m }
 {
@@ -134,6 +135,7 @@ pub fn left_sibling(p: Position) -> usize
 }
 
 // "Underfull non-root node"; where there is no sibling, or a number is not a node's, the step is refused.
+#[tactic(auto, unfolding(crate::specs::Decide::decide_underfull))]
 fn decide_underfull(card: &[u32], n: usize, p: Position, parent: &[u32]) -> Decision
     requires { (length card.now ≡ 8 + 24 * n) × (n ≤ greatest_nodes) × (length parent.now ≡ 24) × (p.index ≤ 11) }
     ensures { result ≡ decide_underfull card.now n p parent.now }
@@ -144,16 +146,14 @@ fn decide_underfull(card: &[u32], n: usize, p: Position, parent: &[u32]) -> Deci
     }
     let x = parent[card::VALUES + j] as usize;
     let y = parent[card::SECOND_CHILD + j] as usize;
-    if !is_node(n, x) {
-        return Decision::Refused;
-    }
-    if !is_node(n, y) {
+    if !is_node(n, x) || !is_node(n, y) {
         return Decision::Refused;
     }
     decide_siblings(p, parent, card::node_at(card, x), card::node_at(card, y))
 }
 
 // The repair of the violation at a position; a parent that is tagged is refused.
+#[tactic(auto, unfolding(crate::specs::Decide::decide_at))]
 fn decide_at(card: &[u32], n: usize, p: Position) -> Decision
     requires { PositionWithin card.now n p }
     ensures { result ≡ decide_at card.now n p }
