@@ -46,9 +46,8 @@ fn list_table(card: &[u32], out: &mut [u32], greatest: usize) -> Result<Summary,
     let n = card::nodes_of(card.len(), greatest).ok_or(Refusal::WrongLength)?;
     let mut unreached: [u32; card_free::WORDS] = [0; card_free::WORDS];
     let mut found: [u32; FOUND_WORDS] = [0; FOUND_WORDS];
-    let levels = card_check::check_table(card, n, &mut unreached, &mut found).ok_or(
-        Refusal::Unsound,
-    )?;
+    let checked = card_check::check_table(card, n, &mut unreached, &mut found);
+    let levels = checked.ok_or(Refusal::Unsound)?;
     let free = card_free::count(&unreached);
     let families = totals_found(&found);
     let words = put_pairs(card, out, greatest);
