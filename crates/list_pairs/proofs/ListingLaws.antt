@@ -6,7 +6,6 @@ use native.Mathlib.Omega.{arith}
 use lib.ListN.{length, set}
 use borrow.Author.Tests.{lt-ltb, le-ltb}
 use Rattle.walk_next.specs.Successor.{next_of, on_next, walk_from}
-use Rattle.walk_next.specs.Next.{Successor}
 use Rattle.walk_next.specs.Next.{Pair, Nothing, Refused}
 use Rattle.list_pairs.specs.Listing.{Laid, laid, lay_pair, lay_pairs}
 
@@ -29,15 +28,15 @@ module _ (greatest : ℕ) (card : List ℕ) (after : ℕ) (l : Laid) where
   walk_out left e = rw e
 
   -- where there is no next pair
-  pub walk_ends : (left : ℕ) → ((key value : ℕ) → next_of greatest 1 card after ≡ Pair key value → ⊥) → l ≡ lay_pairs (walk_from greatest 1 left card after) l
+  pub walk_none : (left : ℕ) → next_of greatest 1 card after ≡ Nothing → l ≡ lay_pairs (walk_from greatest 1 left card after) l
   unfolding walk_from on_next lay_pairs
-  walk_ends zero f = refl
-  walk_ends (suc left) f = go (next_of greatest 1 card after) f
-    where
-      go : (s : Successor) → ((key value : ℕ) → s ≡ Pair key value → ⊥) → l ≡ lay_pairs (on_next (walk_from greatest 1 left card) s) l
-      go (Pair key value) f = absurd (f key value refl)
-      go Nothing f = refl
-      go (Refused r) f = refl
+  walk_none zero e = refl
+  walk_none (suc left) e = rw e
+
+  pub walk_refused : (left r : ℕ) → next_of greatest 1 card after ≡ Refused r → l ≡ lay_pairs (walk_from greatest 1 left card after) l
+  unfolding walk_from on_next lay_pairs
+  walk_refused zero r e = refl
+  walk_refused (suc left) r e = rw e
 
   pub walk_goes_on : (left key value : ℕ) → 0 < left → next_of greatest 1 card after ≡ Pair key value
       → lay_pairs (walk_from greatest 1 left card after) l ≡ lay_pairs (walk_from greatest 1 (left - 1) card key) (lay_pair (key, value) l)

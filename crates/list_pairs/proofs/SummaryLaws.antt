@@ -1,51 +1,31 @@
 -- Laws of what is answered: one for each branch of the code.
 use mathlib.Core.Path.{◌≡◌, refl}
 use mathlib.Core.List.{List}
-use mathlib.Core.Option.{none, some}
+use mathlib.Core.Option.{some}
 use Prim.Native.Nat.{ℕ}
 use lib.ListN.{length}
-use borrow.Author.Tests.{ne_eqb, eq-eqb}
+use borrow.Author.Tests.{ne_eqb}
 use Rattle.card.specs.Header.{nodes_of_length}
 use Rattle.card_dump.specs.Dump.{dump_words, read_answer}
 use Rattle.card_dump.specs.Answer.{Length, Refused as ReadRefused}
 use Rattle.card_free.specs.NodeSet.{count_true}
 use Rattle.card_check.specs.Check.{Findings, table_check}
 use Rattle.card_check.specs.Counting.{table_counted}
-use Rattle.card_family.specs.Families.{no_totals}
 use Rattle.call_open.specs.Opening.{open_of}
 use Rattle.state.specs.Begun.{Begun}
 use Rattle.state.specs.Begun.{Idle, Started, Refused}
 use Rattle.call_repair.specs.Repairing.{opened_card}
 use Rattle.walk_next.specs.Successor.{walk_from}
-use Rattle.list_pairs.specs.Listing.{most_pairs, Listing, Listed, refused, listed, list_checked, list_table, list_begun, list_card, list_read, list_dump, laid, lay_pairs, lay_listed}
-use Rattle.list_pairs.specs.Summaries.{summarized, summary_of}
+use Rattle.list_pairs.specs.Listing.{most_pairs, refused, listed, list_checked, list_table, list_begun, list_card, list_read, list_dump}
 
 -- ---- a table
 
-pub summary_refused : (r : ℕ) (l : Listed) (words : List ℕ) → l ≡ refused r
-    → (record { refusal = r; nodes = 0; free = 0; levels = 0; families = no_totals; words = 0 } ≡ summary_of l words) × (words ≡ (lay_listed l words).words)
-unfolding summary_of summarized lay_listed
-summary_refused r l words e = rw e (refl, refl)
-
 module _ (greatest : ℕ) (card : List ℕ) (n : ℕ) where
-  pub table_none : n ≡ 0 → list_table greatest card n ≡ refused 1
-  unfolding list_table
-  table_none e = rw (eq-eqb n 0 e)
-
-  pub table_unsound : (n ≡ 0 → ⊥) → table_check card n ≡ none → list_table greatest card n ≡ refused 4
-  unfolding list_table list_checked
-  table_unsound d e = rw (ne_eqb n 0 d, e)
-
   pub table_sound : (h : ℕ) (f : Findings) → (n ≡ 0 → ⊥) → table_check card n ≡ some (h, f)
       → list_table greatest card n
       ≡ listed (record { nodes = n; free = count_true f.free; levels = h; families = table_counted card; pairs = walk_from greatest 1 most_pairs card 0 })
   unfolding list_table list_checked
   table_sound h f d e = rw (ne_eqb n 0 d, e)
-
-pub summary_listed : (x : Listing) (l : Listed) (words : List ℕ) (at : ℕ) (after : List ℕ) → l ≡ listed x → laid at after ≡ lay_pairs x.pairs (laid 0 words)
-    → (record { refusal = 0; nodes = x.nodes; free = x.free; levels = x.levels; families = x.families; words = at } ≡ summary_of l words) × (after ≡ (lay_listed l words).words)
-unfolding summary_of summarized lay_listed
-summary_listed x l words at after e p = rw (e, ← p) (refl, refl)
 
 -- ---- a card, by what opening answers
 

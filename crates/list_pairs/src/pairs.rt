@@ -3,7 +3,7 @@ ghost use Rattle.std.specs.Prelude.{◌≡◌, ◌≤◌, length};
 ghost use Rattle.walk_next.specs.Successor.{walk_from};
 ghost use Rattle.list_pairs.specs.Listing.{most_pairs, laid, lay_pair, lay_pairs};
 
-use walk_next::{Successor, next_pair};
+use walk_next::next_pair;
 
 // No card has more pairs than 11 for each of its nodes.
 const MOST_PAIRS: usize = card::SLOTS * card::GREATEST_NODES;
@@ -24,18 +24,18 @@ fn put_pair(out: &mut [u32], at: usize, key: u32, value: u32) -> usize
 
 // "Walking an unchanged card from 0 lists each pair once, rising": stores them from the slice's start on, and answers how many words
 // hold them.
+#[tactic(auto, using(crate::proofs::ListingLaws::walk_none, crate::proofs::ListingLaws::walk_refused, crate::proofs::ListingLaws::walk_out))]
 pub fn put_pairs(card: &[u32], out: &mut [u32], greatest: usize) -> usize
     ensures { laid result out.new ≡ lay_pairs (walk_from greatest 1 most_pairs card.now 0) (laid 0 out.old) }
 {
     let mut at: usize = 0;
     let mut after: u32 = 0;
     for _ in 0..MOST_PAIRS {
-        let Successor::Pair { key, value } = next_pair(card, card::FIRST_LINE, after, greatest)
-        else {
+        let Ok(Some(pair)) = next_pair(card, card::FIRST_LINE, after, greatest) else {
             return at;
         };
-        at = put_pair(out, at, key, value);
-        after = key;
+        at = put_pair(out, at, pair.key, pair.value);
+        after = pair.key;
     }
     at
 }

@@ -1,14 +1,11 @@
 -- Laws of the reason: one for each branch of the code.
-use mathlib.Core.Path.{◌≡◌, refl, sym, subst, ◌∙◌}
+use mathlib.Core.Path.{◌≡◌, refl, ◌∙◌}
 use mathlib.Core.Bool.{Bool}
-use mathlib.Core.List.{List, [], ◌∷◌}
+use mathlib.Core.List.{List}
 use Prim.Native.Nat.{ℕ}
 use lib.ListN.{length}
-use denote.Enum.Declared.{tag_of}
-use types.Run.{OneOf, miss}
 use borrow.Author.Tests.{ne_eqb, eq-eqb}
 use Rattle.card.specs.Header.{nodes_of_length}
-use Rattle.state.specs.contracts.Begun.{the_type}
 use Rattle.state.specs.Begun.{Begun}
 use Rattle.state.specs.Begun.{Idle, Started, Refused as BegunRefused}
 use Rattle.call_change.specs.Updates.{landing}
@@ -17,13 +14,9 @@ use Rattle.call_repair.specs.Repairing.{opened_card}
 use Rattle.card_dump.specs.Dump.{dump_words, read_answer}
 use Rattle.card_dump.specs.Answer.{Length, Refused as ReadRefused}
 use Rattle.reason.specs.InsertReason.{reason_landed, reason_on, reason_begun, reason_of, reason_read, reason_in_dump}
-use Rattle.reason.specs.declared.Reason.TheVariants.{Refused, NoKey}
+use Rattle.reason.specs.Reason.{Refused, NoKey}
 
 module _ (greatest : ℕ) (card : List ℕ) (free : List Bool) (key n : ℕ) (counted : n ≡ nodes_of_length greatest (length card)) where
-  pub on_no_length : n ≡ 0 → reason_on greatest card free key ≡ Refused 1
-  unfolding reason_on
-  on_no_length z = simp (eq-eqb (nodes_of_length greatest (length card)) 0 (sym counted ∙ z))
-
   pub on_no_key : (n ≡ 0 → ⊥) → key ≡ 0 → reason_on greatest card free key ≡ NoKey
   unfolding reason_on
   on_no_key p z = simp (ne_eqb (nodes_of_length greatest (length card)) 0 (λ q. p (counted ∙ q)), eq-eqb key 0 z)
@@ -46,10 +39,6 @@ module _ (greatest : ℕ) (card : List ℕ) (key : ℕ) where
       go Idle e = rw e
       go Started e = rw e
       go (BegunRefused r) e = absurd (unrefused r e)
-
--- what opening answered, told by its variant's number: 0 and 1 are those of no refusal
-pub is_unrefused : (b : Begun) → OneOf (0 ∷ 1 ∷ []) (tag_of the_type b) → (r : ℕ) → b ≡ BegunRefused r → ⊥
-is_unrefused b o r e = miss (0 ∷ 1 ∷ []) 2 tt (subst (λ (x : Begun). OneOf (0 ∷ 1 ∷ []) (tag_of the_type x)) e o)
 
 module _ (greatest : ℕ) (dump : List ℕ) (lent key : ℕ) where
   pub dump_refused : (r : ℕ) → read_answer greatest dump lent ≡ ReadRefused r → reason_in_dump greatest dump lent key ≡ Refused r

@@ -13,8 +13,8 @@ use Rattle.call_repair.specs.Repairing.{opened_card}
 use Rattle.card_dump.specs.Dump.{dump_words, read_answer}
 use Rattle.card_dump.specs.Answer.{Answer}
 use Rattle.card_dump.specs.Answer.{Length, Refused as ReadRefused}
-use Rattle.reason.specs.declared.Reason.{Reason}
-use Rattle.reason.specs.declared.Reason.TheVariants.{Refused, NoKey, Held, Slot, Split}
+use Rattle.reason.specs.Reason.{Reason}
+use Rattle.reason.specs.Reason.{Refused, NoKey, Held, Slot, Split}
 use Rattle.walk.specs.declared.Landing.{Landing}
 
 -- by what an insert finds in its leaf, below so many 11-child nodes without a break, with so many nodes free. "M being j + 5": what

@@ -2,7 +2,7 @@
 use mathlib.Core.Path.{◌≡◌, refl}
 use mathlib.Core.List.{[], ◌∷◌}
 use Rattle.text_row.specs.Lines.{digits_from, digit_count, decimal, line_feed, free_word, refused_word, number_line, refusal_line}
-use Rattle.reason.specs.declared.Reason.TheVariants.{Refused, NoKey, Held, Slot, Split}
+use Rattle.reason.specs.Reason.{Refused, NoKey, Held, Slot, Split}
 use Rattle.reason_text.specs.ReasonText.{no_key_word, held_word, slot_word, split_word, need_word, split_line, reason_text}
 
 -- "split 1 free 3 need 6"

@@ -2,8 +2,8 @@
 use Rattle.std.specs.Prelude.{List, [], ◌∷◌, ◌++◌, ℕ}
 use Rattle.text_row.specs.Lines.{decimal, line_feed, free_word, number_line, refusal_line}
 use Rattle.reason.specs.InsertReason.{reason_in_dump}
-use Rattle.reason.specs.declared.Reason.{Reason}
-use Rattle.reason.specs.declared.Reason.TheVariants.{Refused, NoKey, Held, Slot, Split}
+use Rattle.reason.specs.Reason.{Reason}
+use Rattle.reason.specs.Reason.{Refused, NoKey, Held, Slot, Split}
 use Rattle.reason_key.specs.KeyFile.{key_in}
 use Rattle.call_repair.specs.Repairing.{card_room}
 

@@ -4,7 +4,7 @@ use Rattle.card.specs.Layout.{program_nodes}
 use Rattle.text_row.specs.Filling.{filled, fill}
 use Rattle.text_row.proofs.FillingLaws.{fill_whole}
 use Rattle.reason.specs.InsertReason.{reason_in_dump}
-use Rattle.reason.specs.declared.Reason.{Reason}
+use Rattle.reason.specs.Reason.{Reason}
 use Rattle.reason_key.specs.KeyFile.{key_in}
 use Rattle.call_repair.specs.Repairing.{card_room}
 use Rattle.reason_text.specs.ReasonText.{reason_text, check_text}

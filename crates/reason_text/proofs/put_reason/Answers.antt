@@ -2,8 +2,8 @@ use Rattle.std.proofs.Common.{◌≡◌, ap, sym, ◌∙◌, List, ℕ, ◌++◌
 use Rattle.text_row.specs.Filling.{Filled, filled, fill}
 use Rattle.text_row.specs.Lines.{line_feed}
 use Rattle.text_row.proofs.FillingLaws.{fill_reached}
-use Rattle.reason.specs.declared.Reason.{Reason}
-use Rattle.reason.specs.declared.Reason.TheVariants.{Refused, NoKey, Held, Slot, Split}
+use Rattle.reason.specs.Reason.{Reason}
+use Rattle.reason.specs.Reason.{Refused, NoKey, Held, Slot, Split}
 use Rattle.reason_text.specs.ReasonText.{no_key_word, held_word, slot_word, reason_text}
 use Rattle.reason_text.proofs.put_reason.Goals as goal
 
