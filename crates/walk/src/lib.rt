@@ -288,6 +288,7 @@ pub enum End {
 }
 
 // A key's way down from the root, to its end; faults are passed by where none is sought. A fault is told before what refuses the way.
+#[inline(never)]
 pub fn descend(card: &[u32], n: usize, key: u32, root: usize, seeks: bool) -> End
     requires { (length card.now ≡ 8 + 24 * n) × (n ≤ greatest_nodes) }
     ensures { result ≡ end_of card.now seeks (way_from card.now n key depth_limit (root_position root)) }
