@@ -1,4 +1,5 @@
-// Two nodes that share what there is, "the left one getting the larger half", and the key between them.
+// Two nodes that share what there is, "the left one getting the larger half", and the key between them. Kind, keys and what is beside
+// these are three parameters: the two slices are lent from rows, and a struct of them would be taken apart again by `write_node`.
 ghost use Rattle.std.specs.Prelude.{◌≡◌, ◌++◌, ◌≤◌, ◌<◌, length, drop};
 ghost use Rattle.change_plan.specs.Change.{key_between};
 ghost use Rattle.change_rows.specs.Halves.{together, keys_for, Whole, left_words, right_words, halves_words};

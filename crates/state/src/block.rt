@@ -78,7 +78,7 @@ pub const IN_HAND: u32 = 1;
 
 pub const DECIDED: u32 = 2;
 
-// A word as a number of the machine's own size.
+// A word as a number of the machine's own size: the calls' older form of `word as usize`.
 pub fn wide(word: u32) -> usize
     ensures { result ≡ word }
 {
