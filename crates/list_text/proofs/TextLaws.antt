@@ -12,8 +12,7 @@ use lib.Dec.{eqb}
 use Rattle.laws.proofs.Cases.{order, bool_cases}
 use Rattle.card_family.specs.Families.{family_count}
 use Rattle.list_pairs.specs.Listing.{Listed, refused, listed, list_dump, Laid, laid, lay_pair, lay_pairs, lay_listed}
-use Rattle.list_pairs.specs.Summaries.{summarized, summary_of}
-use Rattle.list_pairs.specs.declared.Summary.{Summary}
+use Rattle.list_pairs.specs.Summaries.{Summary, summarized, summary_of}
 use Rattle.list_text.specs.Text.{
   space,
   family_word,

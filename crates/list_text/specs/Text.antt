@@ -4,8 +4,7 @@ use Rattle.std.specs.Prelude.{List, [], ◌∷◌, ◌++◌, ℕ, zero, suc, ◌
 use Rattle.laws.specs.Cases.{pick}
 use Rattle.card_family.specs.Families.{family_count}
 use Rattle.list_pairs.specs.Listing.{Listed, refused, listed, list_dump, lay_listed}
-use Rattle.list_pairs.specs.Summaries.{summary_of}
-use Rattle.list_pairs.specs.declared.Summary.{Summary}
+use Rattle.list_pairs.specs.Summaries.{Summary, summary_of}
 use Rattle.call_repair.specs.Repairing.{card_room}
 use Rattle.text_row.specs.Lines.{decimal, line_feed, free_word, refusal_line}
 

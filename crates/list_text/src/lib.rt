@@ -95,13 +95,14 @@ pub fn list_text(dump: &[u8], text: &mut Text) -> usize
 {
     let mut card = [0u32; card::PROGRAM_WORDS];
     let mut out = [0u32; PAIR_WORDS];
-    let s = list_pairs::list_dump(dump, &mut card, &mut out, card::PROGRAM_NODES);
-    if s.refusal != 0 {
-        return put_refusal(text, s.refusal);
+    match list_pairs::list_dump(dump, &mut card, &mut out, card::PROGRAM_NODES) {
+        Ok(s) => {
+            let first = put_summary(text, s);
+            let next = put_families(text, first, &s.families);
+            put_pairs(text, next, &out[..s.words])
+        }
+        Err(refusal) => put_refusal(text, refusal.number()),
     }
-    let first = put_summary(text, s);
-    let next = put_families(text, first, &s.families);
-    put_pairs(text, next, &out[..s.words])
 }
 
 // What the program `list` prints for a dump.
