@@ -3,7 +3,7 @@
 #![tactic(auto)]
 
 use std::io;
-use table::{Found, STATE_WORDS};
+use table::STATE_WORDS;
 use test_calls::{Block, make_steps};
 
 // The words of a card with 6 nodes.
@@ -11,7 +11,7 @@ const LENGTH: usize = 152;
 
 // Starts an insert and makes so many of its steps.
 fn insert(card: &mut [u32], state: &mut Block, key: u32, value: u32, steps: u32) {
-    table::start_insert(card, state, key, value);
+    let _ = table::start_insert(card, state, key, value);
     make_steps(card, state, steps);
 }
 
@@ -24,16 +24,16 @@ fn fill(card: &mut [u32], state: &mut Block) {
 
 // Power is back: the card is opened and its repair, if there is one, is finished.
 fn power_on(card: &mut [u32], state: &mut Block) {
-    table::open(card, state);
+    let _ = table::open(card, state);
     make_steps(card, state, 731);
 }
 
 // What the card says of a ration.
 fn say(rt: &impl Print, card: &[u32], key: u32) -> io::Result<()> {
     match table::find(card, key) {
-        Found::Value(value) => println!(rt; "  ration {key}: dose record {value}"),
-        Found::Absent => println!(rt; "  ration {key}: absent"),
-        Found::Refused(refusal) => println!(rt; "  ration {key}: refused {refusal}"),
+        Ok(Some(value)) => println!(rt; "  ration {key}: dose record {value}"),
+        Ok(None) => println!(rt; "  ration {key}: absent"),
+        Err(refusal) => println!(rt; "  ration {key}: refused {}", refusal.number()),
     }
 }
 
@@ -45,7 +45,7 @@ fn say_both(rt: &impl Print, card: &[u32]) -> io::Result<()> {
 fn main(rt: HostRuntime) -> io::Result<()> {
     let mut card = [0; LENGTH];
     let mut state: Block = [0; STATE_WORDS];
-    table::start_format(&card, &mut state);
+    let _ = table::start_format(&card, &mut state);
     make_steps(&mut card, &mut state, 154);
     fill(&mut card, &mut state);
     println!(rt; "rations 1 to 11 are on the card")?;

@@ -5,7 +5,7 @@
 
 pub mod random;
 
-use table::{Begun, STATE_WORDS};
+use table::{Begun, Refusal, STATE_WORDS};
 
 // As many words as a card of 601 nodes would have, which is one too many.
 pub const MOST: usize = card::PROGRAM_WORDS + card::NODE_WORDS;
@@ -29,18 +29,18 @@ pub fn copy_of<'a>(card: &[u32], row: &'a mut Words) -> &'a mut [u32] {
 }
 
 // What opening answers, where the state is not needed.
-pub fn opening_answer(card: &[u32]) -> Begun {
+pub fn opening_answer(card: &[u32]) -> Result<Begun, Refusal> {
     table::open(card, &mut [0; STATE_WORDS])
 }
 
 // So many steps, whatever each answers. A step after the final answer is refused and changes nothing.
 pub fn make_steps(card: &mut [u32], state: &mut Block, count: u32) {
     for _ in 0..count {
-        table::step(card, state);
+        let _ = table::step(card, state);
     }
 }
 
 // The state is lost: the block becomes the idle state for N = 0, which a refused opening hands back.
 pub fn lose(state: &mut Block) {
-    table::open(&[0], state);
+    let _ = table::open(&[0], state);
 }

@@ -106,27 +106,27 @@ impl Garbage {
     }
 
     fn find_on(&mut self, card: &[u32], key: u32) {
-        table::find(card, key);
+        let _ = table::find(card, key);
         self.count(1);
     }
 
     fn open_on(&mut self, card: &mut [u32], state: &mut Block) {
-        table::open(card, state);
+        let _ = table::open(card, state);
         self.walk_from(card, state);
     }
 
     fn insert_on(&mut self, card: &mut [u32], state: &mut Block, key: u32) {
-        table::start_insert(card, state, key, 7);
+        let _ = table::start_insert(card, state, key, 7);
         self.walk_from(card, state);
     }
 
     fn delete_on(&mut self, card: &mut [u32], state: &mut Block, key: u32) {
-        table::start_delete(card, state, key);
+        let _ = table::start_delete(card, state, key);
         self.walk_from(card, state);
     }
 
     fn format_on(&mut self, card: &mut [u32], state: &mut Block) {
-        table::start_format(card, state);
+        let _ = table::start_format(card, state);
         self.walk_from(card, state);
     }
 

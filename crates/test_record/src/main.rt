@@ -2,7 +2,6 @@
 
 #![tactic(auto)]
 
-use call_record::Fetched;
 use std::io;
 use std::io::Write;
 
@@ -24,9 +23,9 @@ fn record<'a>(card: &[u32], key: u32, block: &'a [u8]) -> &'a [u8] {
 fn say(rt: &impl Print, card: &[u32], key: u32, block: &[u8]) -> io::Result<()> {
     print!(rt; "ration {key}: ")?;
     match call_record::is_fetched(card, card::FIRST_LINE, key, block, card::GREATEST_NODES) {
-        Fetched::Found => io::writer(rt).write_all(record(card, key, block))?,
-        Fetched::Absent => print!(rt; "absent")?,
-        Fetched::Refused(refusal) => print!(rt; "refused {refusal}")?,
+        Ok(true) => io::writer(rt).write_all(record(card, key, block))?,
+        Ok(false) => print!(rt; "absent")?,
+        Err(refusal) => print!(rt; "refused {}", refusal.number())?,
     }
     println!(rt)
 }

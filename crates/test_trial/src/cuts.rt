@@ -1,6 +1,6 @@
 // Cuts: the card is opened anew and repaired, and what it holds is compared with the book.
 use crate::trial::{Trial, count};
-use table::{Answer, Begun, Found};
+use table::{Answer, Begun};
 use test_calls::Block;
 
 impl Trial {
@@ -8,12 +8,7 @@ impl Trial {
     fn compare(&mut self, card: &[u32], key: u32) {
         count(&mut self.counts.calls);
         let held = self.book.value(key);
-        let is_wrong = match table::find(card, key) {
-            Found::Value(value) => held != Some(value),
-            Found::Absent => held.is_some(),
-            Found::Refused(_) => true,
-        };
-        self.wrong_if(is_wrong);
+        self.wrong_if(table::find(card, key) != Ok(held));
     }
 
     pub fn compare_one(&mut self, card: &[u32]) {
@@ -34,16 +29,16 @@ impl Trial {
         count(&mut self.counts.cuts);
         count(&mut self.counts.calls);
         let begun = table::open(card, state);
-        self.wrong_if(matches!(begun, Begun::Refused(_)));
-        matches!(begun, Begun::Started)
+        self.wrong_if(begun.is_err());
+        begun == Ok(Begun::Started)
     }
 
     // Makes a step of a repair or of formatting, which store words until one gives "ready"; whether they go on.
     pub fn step_until_ready(&mut self, card: &mut [u32], state: &mut Block) -> bool {
         count(&mut self.counts.steps);
         let answer = table::step(card, state);
-        self.wrong_if(!matches!(answer, Answer::Stored(_) | Answer::Ready));
-        !matches!(answer, Answer::Ready)
+        self.wrong_if(!matches!(answer, Ok(Answer::Stored(_) | Answer::Ready)));
+        answer != Ok(Answer::Ready)
     }
 
     // A step of a repair, or now and then another cut; whether there is more of the repair.
@@ -60,7 +55,7 @@ impl Trial {
     // The table is balanced: opening hands back an idle state.
     fn expect_idle(&mut self, card: &[u32]) {
         count(&mut self.counts.calls);
-        self.wrong_if(!matches!(test_calls::opening_answer(card), Begun::Idle));
+        self.wrong_if(test_calls::opening_answer(card) != Ok(Begun::Idle));
     }
 
     // Opens the card, and makes the repair after a cut, which ends.

@@ -7,14 +7,13 @@ mod book;
 mod cuts;
 mod leaf;
 mod lists;
-mod refusals;
 mod trial;
 mod update_lists;
 
 use lists::{LISTS, List};
 use std::alloc::AllocError;
 use std::io;
-use table::{Begun, STATE_WORDS};
+use table::{Begun, Refusal, STATE_WORDS};
 use test_calls::{Block, Words, copy_of, first_words};
 use trial::{Trial, count};
 
@@ -23,8 +22,7 @@ impl Trial {
     fn format_step(&mut self, card: &mut [u32], state: &mut Block) -> bool {
         let goes_on = self.step_until_ready(card, state);
         if matches!(card, [0, ..]) {
-            let refusal = refusals::of_start(test_calls::opening_answer(card));
-            self.wrong_if(refusal != Some(2));
+            self.wrong_if(test_calls::opening_answer(card) != Err(Refusal::WrongMark));
         }
         goes_on
     }
@@ -33,7 +31,7 @@ impl Trial {
     fn start_format(&mut self, card: &[u32], state: &mut Block) {
         count(&mut self.counts.calls);
         let begun = table::start_format(card, state);
-        self.wrong_if(!matches!(begun, Begun::Started));
+        self.wrong_if(begun != Ok(Begun::Started));
     }
 
     // Formats a card: "8 + 24 × N + 1 stores, then ready".

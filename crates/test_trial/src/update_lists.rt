@@ -1,44 +1,41 @@
 // Starts and steps of updates, each answer compared with the book, and calls that are refused.
 use crate::book::{Hand, Kind};
+use crate::leaf;
 use crate::trial::{Trial, count};
-use crate::{leaf, refusals};
 use std::alloc::AllocError;
-use table::{Answer, Begun};
+use table::{Answer, Begun, Refusal};
 use test_calls::Block;
 
 // Whether a step's answer is not the one due: a store, of which there are at most 657, or the final answer by the book as the update
 // began.
-fn is_wrong(hand: &Hand, answer: Answer) -> bool {
+fn is_wrong(hand: &Hand, answer: Result<Answer, Refusal>) -> bool {
     match answer {
-        Answer::Stored(_) => hand.taken > 656,
-        Answer::Absent => hand.held.is_some(),
-        Answer::Value(value) => hand.held != Some(value),
-        Answer::Ready | Answer::Refused(_) => true,
+        Ok(Answer::Stored(_)) => hand.taken > 656,
+        Ok(Answer::Absent) => hand.held.is_some(),
+        Ok(Answer::Value(value)) => hand.held != Some(value),
+        Ok(Answer::Ready) | Err(_) => true,
     }
 }
 
 impl Trial {
-    // A call that has to be refused with a number, and what it was refused with.
-    fn expect(&mut self, number: u32, refusal: Option<u32>) {
+    // A call that has to be refused, and whether it was, as it is due.
+    fn expect(&mut self, is_refused: bool) {
         count(&mut self.counts.calls);
         count(&mut self.counts.refused);
-        self.wrong_if(refusal != Some(number));
+        self.wrong_if(!is_refused);
     }
 
-    fn expect_of_find(&mut self, number: u32, card: &[u32], key: u32) {
-        self.expect(number, refusals::of_find(table::find(card, key)));
+    fn expect_of_find(&mut self, due: Refusal, card: &[u32], key: u32) {
+        self.expect(table::find(card, key) == Err(due));
     }
 
-    fn expect_of_starts(&mut self, number: u32, card: &[u32], state: &mut Block, key: u32) {
-        let begun = table::start_delete(card, state, key);
-        self.expect(number, refusals::of_start(begun));
-        let begun = table::start_insert(card, state, key, 1);
-        self.expect(number, refusals::of_start(begun));
+    fn expect_of_starts(&mut self, due: Refusal, card: &[u32], state: &mut Block, key: u32) {
+        self.expect(table::start_delete(card, state, key) == Err(due));
+        self.expect(table::start_insert(card, state, key, 1) == Err(due));
     }
 
-    fn expect_of_step(&mut self, number: u32, card: &mut [u32], state: &mut Block) {
-        let answer = table::step(card, state);
-        self.expect(number, refusals::of_step(answer));
+    fn expect_of_step(&mut self, due: Refusal, card: &mut [u32], state: &mut Block) {
+        self.expect(table::step(card, state) == Err(due));
     }
 
     // Key 0 is refused 6, a start that is not idle 7, an idle step 10.
@@ -46,10 +43,10 @@ impl Trial {
         let is_idle = self.book.hand.is_none();
         let key = self.any_key();
         match (which, is_idle) {
-            (0, _) => self.expect_of_find(6, card, 0),
-            (1, true) => self.expect_of_step(10, card, state),
-            (_, true) => self.expect_of_starts(6, card, state, 0),
-            (_, false) => self.expect_of_starts(7, card, state, key),
+            (0, _) => self.expect_of_find(Refusal::ZeroKey, card, 0),
+            (1, true) => self.expect_of_step(Refusal::Idle, card, state),
+            (_, true) => self.expect_of_starts(Refusal::ZeroKey, card, state, 0),
+            (_, false) => self.expect_of_starts(Refusal::Busy, card, state, key),
         }
     }
 
@@ -59,31 +56,31 @@ impl Trial {
         let n = card.len().saturating_sub(1);
         let short = &mut card[..n];
         match which {
-            3 => self.expect_of_find(1, short, key),
-            4 => self.expect_of_starts(1, short, state, key),
-            _ => self.expect_of_step(1, short, state),
+            3 => self.expect_of_find(Refusal::WrongLength, short, key),
+            4 => self.expect_of_starts(Refusal::WrongLength, short, state, key),
+            _ => self.expect_of_step(Refusal::WrongLength, short, state),
         }
     }
 
     // An insert that was started, or refused for want of room: refusal 8, key absent, leaf full. With fewer than 6 nodes there are
     // never 5 free for one that splits.
-    fn insert_begun(&mut self, hand: Hand, begun: Begun) {
+    fn insert_begun(&mut self, hand: Hand, begun: Result<Begun, Refusal>) {
         let is_split = hand.held.is_none() && hand.is_leaf_full;
         match begun {
-            Begun::Started => {
+            Ok(Begun::Started) => {
                 self.book.hand = Some(hand);
                 self.wrong_if(self.list.nodes < 6 && is_split);
             }
-            Begun::Idle => self.wrong_if(true),
-            Begun::Refused(refusal) => {
+            Ok(Begun::Idle) => self.wrong_if(true),
+            Err(refusal) => {
                 count(&mut self.counts.refused);
-                self.wrong_if(refusal != 8 || !is_split);
+                self.wrong_if(refusal != Refusal::NoRoom || !is_split);
             }
         }
     }
 
-    fn delete_begun(&mut self, hand: Hand, begun: Begun) {
-        if matches!(begun, Begun::Started) {
+    fn delete_begun(&mut self, hand: Hand, begun: Result<Begun, Refusal>) {
+        if begun == Ok(Begun::Started) {
             self.book.hand = Some(hand);
         } else {
             self.wrong_if(true);
@@ -145,6 +142,6 @@ impl Trial {
         count(&mut self.counts.steps);
         let answer = table::step(card, state);
         self.wrong_if(is_wrong(&hand, answer));
-        self.book.step(!matches!(answer, Answer::Stored(_)))
+        self.book.step(!matches!(answer, Ok(Answer::Stored(_))))
     }
 }
