@@ -6,8 +6,10 @@
 ghost use Rattle.std.specs.Prelude.{◌≡◌, ◌++◌, ◌≤◌, length, drop};
 ghost use Rattle.text_row.specs.Filling.{filled, fill};
 ghost use Rattle.card.specs.Layout.{program_nodes};
+ghost use Rattle.reason.specs.Reason.{told};
 ghost use Rattle.reason_text.specs.ReasonText.{split_line, reason_text, check_text};
 
+use card::Refusal;
 use reason::Reason;
 use text_row::{print_first, put_all, put_line, put_number, put_refusal};
 
@@ -26,18 +28,19 @@ fn put_split(text: &mut [u8], run: usize, free: usize, need: usize) -> usize
     put_all(text, needed, b"\n")
 }
 
-// The text of a reason, from the start of the row on; the answer is where the next byte goes.
-fn put_reason(text: &mut [u8], reason: Reason) -> usize
+// The text of a reason or of a refusal, from the start of the row on; the answer is where the next byte goes.
+#[tactic(auto, unfolding(crate::specs::ReasonText::reason_text, crate::specs::ReasonText::no_key_word, crate::specs::ReasonText::held_word, crate::specs::ReasonText::slot_word, text_row::specs::Lines::line_feed))]
+fn put_reason(text: &mut [u8], reason: Result<Reason, Refusal>) -> usize
     requires { 79 ≤ length text.old }
-    ensures text_after { filled result text.new ≡ fill (reason_text reason) (filled 0 text.old) }
+    ensures text_after { filled result text.new ≡ fill (reason_text (told reason)) (filled 0 text.old) }
     ensures upper_bound { result ≤ length text.old }
 {
     match reason {
-        Reason::Refused(refusal) => put_refusal(text, refusal),
-        Reason::NoKey => put_all(text, 0, b"no key\n"),
-        Reason::Held(value) => put_line(text, b"held ", value),
-        Reason::Slot => put_all(text, 0, b"slot\n"),
-        Reason::Split { run, free, need } => put_split(text, run, free, need),
+        Ok(Reason::NoKey) => put_all(text, 0, b"no key\n"),
+        Ok(Reason::Held(value)) => put_line(text, b"held ", value),
+        Ok(Reason::Slot) => put_all(text, 0, b"slot\n"),
+        Ok(Reason::Split { run, free, need }) => put_split(text, run, free, need),
+        Err(refusal) => put_refusal(text, refusal.number()),
     }
 }
 
