@@ -1,9 +1,8 @@
 // The dump in hand, and the dump, read, write and list lines of the traces (document 01, "Dumps and the list program").
 use crate::crc;
-use crate::stream::Stream;
+use crate::stream::{Stream, next_place};
 use crate::trace::Trace;
-use card::GREATEST_NODES;
-use card_dump::Answer;
+use card::{GREATEST_NODES, Refusal};
 use test_calls::Words;
 
 // One block of 512 bytes more than the longest dump has.
@@ -31,18 +30,18 @@ impl Dump {
 
     // Some of its bytes from a place on; past the end nothing is set.
     pub fn set_bytes(&mut self, stream: &mut Stream) {
-        let at = stream.next_number() as usize;
-        let count = stream.next_number() as usize;
-        for i in at..at + count {
+        let mut at = stream.next_number() as usize;
+        for _ in 0..stream.next_number() {
             let value = stream.next_byte();
-            if let Some(byte) = self.bytes.get_mut(i) {
+            if let Some(byte) = self.bytes.get_mut(at) {
                 *byte = value;
             }
+            at = next_place(at);
         }
     }
 
     // Reads it over the first n words; None where there are fewer.
-    fn read_over(&self, lent: &mut Words, n: usize) -> Option<Answer> {
+    fn read_over(&self, lent: &mut Words, n: usize) -> Option<Result<usize, Refusal>> {
         let dump = self.bytes.get(..self.length)?;
         let words = lent.get_mut(..n)?;
         Some(card_dump::read_dump(dump, words, GREATEST_NODES))
@@ -68,7 +67,12 @@ impl Dump {
 }
 
 // Writes the card that the first `size` words are over the first n bytes; None where there are fewer.
-fn write_over(words: &Words, size: usize, lent: &mut [u8], n: usize) -> Option<Answer> {
+fn write_over(
+    words: &Words,
+    size: usize,
+    lent: &mut [u8],
+    n: usize,
+) -> Option<Result<usize, Refusal>> {
     let card = words.get(..size)?;
     let bytes = lent.get_mut(..n)?;
     Some(card_dump::write_dump(card, bytes, GREATEST_NODES))

@@ -10,7 +10,7 @@ mod trace;
 
 use dumps::Dump;
 use state::block::{FREE, PLACES};
-use stream::Stream;
+use stream::{Stream, next_place};
 use table::{Answer, STATE_WORDS};
 use test_calls::{Block, Words, copy_of, first_words};
 use trace::Trace;
@@ -45,9 +45,14 @@ impl Replay {
         self.trace.feed_opening(begun, free);
     }
 
-    fn find(&mut self, card: &[u32]) {
+    // A find, and its depth, which counts as 0 where a card is asked for that is longer than the row.
+    fn find(&mut self, card: &[u32], length: usize) {
         let key = self.stream.next_number();
-        self.trace.feed_lookup(table::find_with_depth(card, key));
+        match table::find_with_depth(card, key) {
+            Ok(lookup) if card.len() < length => self.trace.feed_found(lookup.found, 0),
+            Ok(lookup) => self.trace.feed_found(lookup.found, lookup.depth),
+            Err(refusal) => self.trace.feed_refusal(refusal),
+        }
     }
 
     fn insert(&mut self, card: &[u32]) {
@@ -77,11 +82,11 @@ impl Replay {
     fn step(&mut self, card: &mut [u32], old: &mut [u32]) {
         let depth = u64::from(table::depth_kept(&self.state));
         match table::step(card, &mut self.state) {
-            Answer::Stored(place) => self.stored(card, old, place),
-            Answer::Ready => self.trace.feed(9),
-            Answer::Absent => self.trace.feed_all(&[8, depth]),
-            Answer::Value(value) => self.trace.feed_all(&[7, u64::from(value), depth]),
-            Answer::Refused(refusal) => self.trace.feed_refusal(refusal),
+            Ok(Answer::Stored(place)) => self.stored(card, old, place),
+            Ok(Answer::Ready) => self.trace.feed(9),
+            Ok(Answer::Absent) => self.trace.feed_all(&[8, depth]),
+            Ok(Answer::Value(value)) => self.trace.feed_all(&[7, u64::from(value), depth]),
+            Err(refusal) => self.trace.feed_refusal(refusal),
         }
         self.trace.feed(u64::from(&*card != &*old));
     }
@@ -95,22 +100,17 @@ impl Replay {
         }
     }
 
-    // A call, by its number in the stream.
-    fn call(&mut self, card: &mut [u32], kind: u32) {
+    // A call on the card that the first words of a row are, so many as are asked for, by its number in the stream.
+    fn call(&mut self, words: &mut Words, length: usize, kind: u32) {
+        let card = first_words(words, length);
         match kind {
             8 => self.format(card),
             0..10 => self.open(card),
-            10 => self.find(card),
+            10 => self.find(card, length),
             11 => self.insert(card),
             12 => self.delete(card),
             _ => self.steps(card),
         }
-    }
-
-    // A call on the card in hand.
-    fn call_on_card(&mut self, words: &mut Words, kind: u32) {
-        let card = first_words(words, self.trace.length);
-        self.call(card, kind);
     }
 
     // A call on a copy of the card that is shorter or longer.
@@ -119,7 +119,7 @@ impl Replay {
         let kind = self.stream.next_number();
         let mut copy = [0; test_calls::MOST];
         copy_of(first_words(words, self.trace.length), &mut copy);
-        self.call(first_words(&mut copy, length), kind);
+        self.call(&mut copy, length, kind);
     }
 
     // The CRC of the card in hand.
@@ -135,24 +135,25 @@ impl Replay {
         self.trace.feed(stores);
     }
 
+    // A card of so many nodes, all of its words 0. Traces are numbered from 1 to 65536, and then from 1 again.
     fn new_card(&mut self, words: &mut Words) {
         words.fill(0);
         self.trace = Trace {
-            number: self.trace.number.wrapping_add(1),
-            length: 8 + 24 * self.stream.next_number() as usize,
+            number: self.trace.number % 65536 + 1,
+            length: 8 + 24 * self.stream.next_low(),
             ..Trace::default()
         };
         test_calls::lose(&mut self.state);
     }
 
-    // Some zeros and some words from a place on, set from outside; past the end nothing is set.
+    // Some words after some zeros from a place on, set from outside; past the end nothing is set.
     fn set_words(&mut self, words: &mut Words) {
-        let place = self.stream.next_number() as usize;
-        let zeros = self.stream.next_number() as usize;
-        let count = self.stream.next_number() as usize;
-        let at = place + zeros;
-        for i in at..at + count {
-            self.set_word(words, i);
+        let place = self.stream.next_low();
+        let zeros = self.stream.next_low();
+        let mut at = place + zeros;
+        for _ in 0..self.stream.next_number() {
+            self.set_word(words, at);
+            at = next_place(at);
         }
     }
 
@@ -178,7 +179,7 @@ impl Replay {
             5 => self.feed_card(words),
             6 => self.feed_end(words),
             7 => self.call_on_copy(words),
-            8..14 => self.call_on_card(words, kind),
+            8..14 => self.call(words, self.trace.length, kind),
             14 => self.dump.begin(&mut self.stream),
             15 => self.dump.set_bytes(&mut self.stream),
             16 => self.dump.read(&mut self.stream, &mut self.trace),

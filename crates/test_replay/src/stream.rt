@@ -1,4 +1,10 @@
 // The stream of operations on standard input. It is read by the crate `io`, into a buffer of fixed size: std's `BufReader` takes the heap.
+ghost use Rattle.std.specs.Prelude.{◌<◌};
+
+// The place after one. It is no range's next number: past 2^32 places go on from 1.
+pub fn next_place(place: usize) -> usize {
+    place % 4294967296 + 1
+}
 
 #[derive(Drop)]
 pub struct Stream {
@@ -42,5 +48,12 @@ impl Stream {
             }
         }
         number
+    }
+
+    // The low 16 bits of the next number.
+    pub fn next_low(&mut self) -> usize
+        ensures { result < 65536 }
+    {
+        (self.next_number() % 65536) as usize
     }
 }

@@ -1,6 +1,5 @@
 // The trace in hand, and the hash of its results. The numbers that tell what a result is are those of tools/make_replay.py.
-use card_dump::Answer as DumpAnswer;
-use table::{Begun, Found, Lookup};
+use table::{Begun, Refusal};
 
 #[derive(Clone, Copy, Default)]
 pub struct Trace {
@@ -24,34 +23,32 @@ impl Trace {
         }
     }
 
-    pub fn feed_refusal(&mut self, refusal: u32) {
-        self.feed_all(&[1, u64::from(refusal)]);
+    pub fn feed_refusal(&mut self, refusal: Refusal) {
+        self.feed_all(&[1, u64::from(refusal.number())]);
     }
 
     // What a start of an update or of formatting answered.
-    pub fn feed_start(&mut self, begun: Begun) {
+    pub fn feed_start(&mut self, begun: Result<Begun, Refusal>) {
         match begun {
-            Begun::Idle => self.feed(3),
-            Begun::Started => self.feed(2),
-            Begun::Refused(refusal) => self.feed_refusal(refusal),
+            Ok(Begun::Idle) => self.feed(3),
+            Ok(Begun::Started) => self.feed(2),
+            Err(refusal) => self.feed_refusal(refusal),
         }
     }
 
     // What opening answered, with the number of free nodes.
-    pub fn feed_opening(&mut self, begun: Begun, free: usize) {
+    pub fn feed_opening(&mut self, begun: Result<Begun, Refusal>, free: usize) {
         match begun {
-            Begun::Idle => self.feed_all(&[3, free as u64]),
-            Begun::Started => self.feed_all(&[4, free as u64]),
-            Begun::Refused(refusal) => self.feed_refusal(refusal),
+            Ok(Begun::Idle) => self.feed_all(&[3, free as u64]),
+            Ok(Begun::Started) => self.feed_all(&[4, free as u64]),
+            Err(refusal) => self.feed_refusal(refusal),
         }
     }
 
-    pub fn feed_lookup(&mut self, lookup: Lookup) {
-        let depth = lookup.depth as u64;
-        match lookup.found {
-            Found::Value(value) => self.feed_all(&[5, u64::from(value), depth]),
-            Found::Absent => self.feed_all(&[6, depth]),
-            Found::Refused(refusal) => self.feed_refusal(refusal),
+    pub fn feed_found(&mut self, found: Option<u32>, depth: usize) {
+        match found {
+            Some(value) => self.feed_all(&[5, u64::from(value), depth as u64]),
+            None => self.feed_all(&[6, depth as u64]),
         }
     }
 
@@ -63,11 +60,11 @@ impl Trace {
 
     // What a read or a write answered, and the CRC of the lent slice afterwards. No trace asks for more than there is; refusal 0,
     // which document 01 does not have, would show it.
-    pub fn feed_lent(&mut self, tag: u64, answer: Option<DumpAnswer>, crc: u32) {
+    pub fn feed_lent(&mut self, tag: u64, answer: Option<Result<usize, Refusal>>, crc: u32) {
         match answer {
-            Some(DumpAnswer::Length(n)) => self.feed_all(&[tag, n as u64]),
-            Some(DumpAnswer::Refused(refusal)) => self.feed_refusal(refusal),
-            None => self.feed_refusal(0),
+            Some(Ok(n)) => self.feed_all(&[tag, n as u64]),
+            Some(Err(refusal)) => self.feed_refusal(refusal),
+            None => self.feed_all(&[1, 0]),
         }
         self.feed(u64::from(crc));
     }
