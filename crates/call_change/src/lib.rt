@@ -165,6 +165,7 @@ fn take_out(card: &[u32], n: usize, line: u32, doing: Doing, key: u32) -> First
 }
 
 // What the next step of a task decides in a line's table, for a state that is doing this. "Repairs go on until balanced", and then the answer is given.
+#[tactic(auto, unfolding(crate::specs::Decided::decided))]
 pub fn next_change(card: &[u32], n: usize, line: u32, doing: Doing, task: Task) -> First
     requires { Sized greatest_nodes (length card.now) n × IsLine line }
     ensures { result ≡ decided (seen line card.now) n doing task }

@@ -8,17 +8,20 @@ use native.Mathlib.Omega.{arith}
 use lib.ListN.{length, get_or, take, drop, set}
 use Rattle.laws.proofs.Cases.{order}
 use Rattle.card.specs.Header.{Sized}
+use Rattle.card.specs.Layout.{greatest_nodes}
 use Rattle.card.specs.Lines.{seen, on_line}
 use Rattle.card.proofs.LineLaws.{seen_long, seen_sized, on_node}
 use Rattle.card.specs.Stores.{Store}
 use Rattle.card_free.specs.NodeSet.{word_count, nodes_of}
 use Rattle.card_free.proofs.NodeSetLaws.{length_nodes}
 use Rattle.change_decide.specs.Places.{Fits}
+use Rattle.change_decide.proofs.LinePlaces.{fits_seen}
 use Rattle.change_decide.specs.declared.Decision.{Decision}
 use Rattle.change_plan.specs.Planning.{Preparation, prepared, take_numbers, without_all, last_of}
 use Rattle.change_plan.specs.declared.Outcome.TheVariants.{Refused as NoStep, Balanced as NoChange, Prepared}
 use Rattle.change_plan.proofs.NumberLaws.{given_within}
-use Rattle.change_layout.specs.LayOut.{lay_out, outcome_of, needed, store_count, cut_by, places_by, words_by, stores_by}
+use Rattle.change_layout.specs.declared.Size.{Size}
+use Rattle.change_layout.specs.LayOut.{size_of, lay_out, outcome_of, needed, store_count, cut_by, places_by, words_by, stores_by}
 use Rattle.change_layout.proofs.LayOutLaws.{laid_none, laid_given, laid_refused, laid_balanced, laid_from, first_on_card, first_in_node, length_by}
 use Rattle.change_layout.proofs.LineLayOut.{lay_out_seen}
 use Rattle.change_layout.proofs.Bounds.{WithinBounds, laid_bounds}
@@ -182,30 +185,39 @@ module _ (greatest : ℕ) (card b : List ℕ) (long : length b ≡ state_words) 
 
 -- ---- what is decided
 
-module _ (greatest line : ℕ) (card b : List ℕ) (long : length b ≡ state_words) (task : Task) (holds : held_by (memory_in b).doing ≡ HeldTask task) (next : First)
-    (is : next ≡ decided (seen line card) (memory_in b).nodes (memory_in b).doing task) where
+module _ (line : ℕ) (card b : List ℕ) (long : length b ≡ state_words) (task : Task) (holds : held_by (memory_in b).doing ≡ HeldTask task)
+    (n : ℕ) (doing : Doing) (count : n ≡ block_word b 0) (now : doing ≡ (memory_in b).doing)
+    (next : First) (found : next ≡ decided (seen line card) n doing task) (size : Size) (sized : size ≡ size_of next.decision) where
   abbrev state : Memory
   state = memory_in b
 
   abbrev own : List ℕ
   own = seen line card
 
+  is : next ≡ decided own state.nodes state.doing task
+  unfolding memory_in
+  is = found ∙ ap₂ (λ (k : ℕ) (d : Doing). decided own k d task) count now
+
+  outcome_is : outcome_of next.decision ≡ size.outcome
+  unfolding size_of
+  outcome_is = sym (ap (λ (z : Size). z.outcome) sized)
+
   next_is : next_change own state.nodes state.free state.last state.doing task ≡ laid_first own next state.free state.last
   next_is =
       next_decided own state.free state.last state.nodes state.doing task
       ∙ ap (λ (f : First). laid_first own f state.free state.last) (sym is)
 
-  pub task_prepares : step_task own state task []
+  task_prepares : step_task own state task []
       ≡ step_prepared own state next.doing (given next.answer) (lay_out own next.decision state.free state.last)
   unfolding step_task step_begin
   task_prepares = ap (step_begin own state) next_is
 
-  pub task_refused : outcome_of next.decision ≡ NoStep → MadeOn line card b card b (Refused 9) (step_task own state task [])
+  pub task_refused : size.outcome ≡ NoStep → MadeOn line card b card b (Refused 9) (step_task own state task [])
   unfolding step_prepared Still
   task_refused o =
       made_still line card b
       (made_refused own b 9
-      (task_prepares ∙ ap (step_prepared own state next.doing (given next.answer)) (laid_refused own next.decision state.free state.last o))) tt
+      (task_prepares ∙ ap (step_prepared own state next.doing (given next.answer)) (laid_refused own next.decision state.free state.last (outcome_is ∙ o)))) tt
 
   block_ends : (a : Answer) → Ends a → (step_block own b a ≡ idled_block b) × Still a
   unfolding Ends Still step_block
@@ -215,28 +227,37 @@ module _ (greatest line : ℕ) (card b : List ℕ) (long : length b ≡ state_wo
   block_ends (Value v) e = (refl, tt)
   block_ends (Refused r) e = absurd e
 
-  pub task_ended : {after : List ℕ} → outcome_of next.decision ≡ NoChange → after ≡ idled_block b
+  pub task_ended : {after : List ℕ} → size.outcome ≡ NoChange → after ≡ idled_block b
       → MadeOn line card b card after (given next.answer) (step_task own state task [])
   unfolding step_prepared
   task_ended o w =
       let ends =
       block_ends (given next.answer)
       (subst Ends (ap (λ (f : FirstChange). f.final) next_is)
-      (next_ends greatest own state.nodes state.free state.last state.doing task (task_of state.doing task holds))) in
+      (next_ends greatest_nodes own state.nodes state.free state.last state.doing task (task_of state.doing task holds))) in
       made_still line card b
       (made_final own b {answer = given next.answer}
-      (task_prepares ∙ ap (step_prepared own state next.doing (given next.answer)) (laid_balanced own next.decision state.free state.last o)) ends.0 w)
+      (task_prepares ∙ ap (step_prepared own state next.doing (given next.answer)) (laid_balanced own next.decision state.free state.last (outcome_is ∙ o))) ends.0 w)
       ends.1
 
-  pub task_changes : Sized greatest (length card) state.nodes → state.rest ≡ [] → outcome_of next.decision ≡ Prepared
-      → Changes own b next.doing next.decision
-  task_changes size no_rest o =
-      record {
-        task = task;
-        final = given next.answer;
-        holds = holds;
-        none = no_rest;
-        next = next_is;
-        fits = subst (λ (f : First). Fits own f.decision) (sym is) (decided_fits greatest own state.nodes (seen_sized line card size) state.doing task);
-        some = o;
-      }
+  module _ (size_is : Sized greatest_nodes (length card) (block_word b 0)) (o : size.outcome ≡ Prepared) where
+    fits_there : Fits own next.decision
+    unfolding memory_in
+    fits_there = subst (λ (f : First). Fits own f.decision) (sym is) (decided_fits greatest_nodes own state.nodes (seen_sized line card size_is) state.doing task)
+
+    pub task_fits : Fits card next.decision
+    task_fits = fits_seen line card (seen_long line card size_is) next.decision fits_there
+
+    pub task_some : outcome_of next.decision ≡ Prepared
+    task_some = outcome_is ∙ o
+
+    -- the change is made, and so the step
+    pub task_changed : state.rest ≡ [] → {card_after after : List ℕ} {answer : Answer}
+        → ((l : ℕ) → Changes (seen l card) b next.doing next.decision → (final : Answer)
+        → MadeOn l card b card_after after answer (step_prepared (seen l card) state next.doing final (lay_out (seen l card) next.decision state.free state.last)))
+        → MadeOn line card b card_after after answer (step_task own state task [])
+    task_changed no_rest {card_after} {after} {answer} change =
+        subst (MadeOn line card b card_after after answer) (sym task_prepares)
+        (change line
+        (record { task = task; final = given next.answer; holds = holds; none = no_rest; next = next_is; fits = fits_there; some = task_some })
+        (given next.answer))

@@ -9,21 +9,38 @@ use lib.ListN.{length, get_or, drop, set}
 use Rattle.card.specs.Stores.{Store}
 use Rattle.state.specs.Memory.{advanced}
 use Rattle.state.specs.Results.{more_to_store}
-use Rattle.state.specs.Steps.{Step, held_by, step_refused, step_final, formatting_from, step_format, step_store}
+use Rattle.state.specs.Steps.{formatted_word, format_store, is_idle, Step, held_by, step_refused, step_final, formatting_from, step_format, step_store}
 use Rattle.state.specs.Block.{places_at, values_at, state_words, block_word, part, doing_in, memory_in}
-use Rattle.state.specs.Answer.{Answer}
+use Rattle.state.specs.Answer.{Answer, given}
+use Rattle.state.specs.declared.Answer.{Answer as Given}
+use Rattle.state.specs.declared.Answer.TheVariants.{Stored as GivenStored}
 use Rattle.state.specs.Answer.{Stored, Ready, Absent, Value, Refused}
-use Rattle.state.proofs.StepLaws.{store_outside, store_inside}
+use Rattle.state.proofs.Blocks.{idle_none, idle_other}
+use borrow.Author.Tests.{lt-ltb, le-ltb}
+use Rattle.state.proofs.StepLaws.{store_outside, store_inside, format_first, format_middle, format_last, format_end}
+use Rattle.laws.proofs.Cases.{order}
+use native.Mathlib.Omega.{arith}
 use Rattle.call_step.specs.StepBlocks.{idled_block, played_block, stored_block, step_block}
 use Rattle.call_step.specs.Clauses.{StepMade, HoldsTask}
 use Rattle.call_step.proofs.PlayLaws.{planned, plan_next, plan_below, part_word}
 
--- whether the next step makes a store of the change in hand, by whether anything is being done
-pub idle_stores : {idle : Bool} (more : Bool) → true ≡ idle → false ≡ not idle && more
-idle_stores more e = ap (λ (t : Bool). not t && more) e
+-- whether the next step makes a store of the change in hand, by the number of what is being done
+module _ (b : List ℕ) where
+  abbrev MakesStore : Bool → Type 0
+  MakesStore t = t ≡ not (is_idle (memory_in b).doing) && more_to_store (memory_in b).rest
 
-pub held_stores : {idle : Bool} (more : Bool) → idle ≡ false → more ≡ not idle && more
-held_stores more e = ap (λ (t : Bool). not t && more) (sym e)
+  pub idle_stores : block_word b 2 ≡ 0 → MakesStore false
+  idle_stores z = ap (λ (t : Bool). not t && more_to_store (memory_in b).rest) (idle_none b z)
+
+  pub unknown_stores : (block_word b 2 ≡ 0 → ⊥) → 4 < block_word b 2 → MakesStore false
+  unknown_stores p h = ap (λ (t : Bool). not t && more_to_store (memory_in b).rest) (sym (lt-ltb 4 (block_word b 2) h) ∙ idle_other b p)
+
+  pub held_stores : (block_word b 2 ≡ 0 → ⊥) → block_word b 2 ≤ 4 → (more : Bool) (made : ℕ) → made ≡ block_word b 6
+      → more ≡ more_to_store (drop made (planned b)) → MakesStore more
+  unfolding memory_in
+  held_stores p h more made e m =
+      m ∙ ap (λ (k : ℕ). more_to_store (drop k (planned b))) e
+      ∙ ap (λ (t : Bool). not t && more_to_store (memory_in b).rest) (sym (le-ltb 4 (block_word b 2) h) ∙ idle_other b p)
 
 -- formatting: the words of the block do not go by the card
 block_format : (card b : List ℕ) (place : ℕ) → block_word b 2 ≡ 1 → step_block card b (Stored place) ≡ set b 3 (suc (block_word b 3))
@@ -65,7 +82,7 @@ module _ (card b : List ℕ) where
   made_final {answer = answer} e i w = made_by (step_final answer card (memory_in b)) e refl refl (w ∙ sym i)
 
   -- formatting
-  pub made_format : {card_after after : List ℕ} {answer : Answer} {store : Option Store} (place word : ℕ) → store ≡ some (place, word) → block_word b 2 ≡ 1
+  made_format : {card_after after : List ℕ} {answer : Answer} {store : Option Store} (place word : ℕ) → store ≡ some (place, word) → block_word b 2 ≡ 1
       → answer ≡ Stored place → card_after ≡ set card place word → after ≡ set b 3 (suc (block_word b 3))
       → StepMade card b card_after after answer (step_format card (memory_in b) (block_word b 3) store)
   unfolding step_format
@@ -73,10 +90,37 @@ module _ (card b : List ℕ) where
       made_by (record { answer = Stored place; card = set card place word; memory = formatting_from (memory_in b) (suc (block_word b 3)) })
       (ap (step_format card (memory_in b) (block_word b 3)) e) a s (w ∙ sym (block_format card b place f))
 
-  pub made_formatted : {after : List ℕ} {store : Option Store} → store ≡ none → after ≡ idled_block b
+  made_formatted : {after : List ℕ} {store : Option Store} → store ≡ none → after ≡ idled_block b
       → StepMade card b card after Ready (step_format card (memory_in b) (block_word b 3) store)
   unfolding step_format step_block
   made_formatted e w = made_final {answer = Ready} (ap (step_format card (memory_in b) (block_word b 3)) e) refl w
+
+  -- a step of formatting, by how many stores are made
+  abbrev Formats : List ℕ → List ℕ → Answer → Type 0
+  Formats card_after after answer =
+      StepMade card b card_after after answer
+      (step_format card (memory_in b) (block_word b 3) (format_store (block_word b 0) (length card) (block_word b 3)))
+
+  module _ (what : block_word b 2 ≡ 1) (made : ℕ) (e : made ≡ block_word b 3) {after : List ℕ} where
+    module _ {card_after : List ℕ} (answer : Given) (w : after ≡ set b 3 (suc (block_word b 3))) where
+      pub formats_first : made ≡ 0 → answer ≡ GivenStored 0 → card_after ≡ set card 0 0 → Formats card_after after (given answer)
+      formats_first z a s = made_format 0 0 (format_first (block_word b 0) (length card) (block_word b 3) (sym e ∙ z)) what (ap given a) s w
+
+      pub formats_middle : (made ≡ 0 → ⊥) → made < length card → (n word : ℕ) → n ≡ block_word b 0 → word ≡ formatted_word n made
+          → answer ≡ GivenStored (block_word b 3) → card_after ≡ set card (block_word b 3) word → Formats card_after after (given answer)
+      formats_middle p h n word f g a s =
+          made_format (block_word b 3) (formatted_word (block_word b 0) (block_word b 3))
+          (format_middle (block_word b 0) (length card) (block_word b 3) (λ z. p (e ∙ z)) (omega (arith, e))) what (ap given a)
+          (s ∙ ap (set card (block_word b 3)) (g ∙ ap₂ formatted_word f e)) w
+
+      pub formats_last : (made ≡ 0 → ⊥) → made ≡ length card → answer ≡ GivenStored 0 → card_after ≡ set card 0 1 → Formats card_after after (given answer)
+      formats_last p h a s = made_format 0 1 (format_last (block_word b 0) (length card) (block_word b 3) (λ z. p (e ∙ z)) (sym e ∙ h)) what (ap given a) s w
+
+    pub formats_end : length card ≤ made → (made ≡ length card → ⊥) → after ≡ idled_block b → Formats card after Ready
+    formats_end h p w =
+        made_formatted
+        (format_end (block_word b 0) (length card) (block_word b 3) (omega (arith, e, (order (length card) made (λ l. l) (λ l. absurd (p (omega (arith, h, l))))))))
+        w
 
   -- a store of the change in hand
   block_store : (place : ℕ) (s : Store) (rest : List Store) → HoldsTask (memory_in b).doing → (memory_in b).rest ≡ s ∷ rest
@@ -100,6 +144,9 @@ module _ (card b : List ℕ) where
 
     pub next_below : k < 73
     next_below = (plan_below b long k left).1
+
+    pub next_in_block : places_at + k < length b
+    next_in_block = omega (arith, next_below, long)
 
     rest_is : (memory_in b).rest ≡ store ∷ later
     rest_is = rest_in ∙ ap (λ (i : ℕ). drop i (planned b)) (sym e) ∙ plan_next b long k left

@@ -1,6 +1,6 @@
 -- A step of a line's own table, on the card: where its store stands; and on a card with one line it is the card's own step.
 use mathlib.Core.Path.{◌≡◌, refl, sym, ap, ap₂, subst, ◌∙◌}
-use mathlib.Core.Bool.{true}
+use mathlib.Core.Bool.{Bool, true, false}
 use mathlib.Core.List.{List, [], ◌∷◌}
 use mathlib.Core.Logic.{by_cases}
 use Prim.Native.Nat.{ℕ, ◌+◌, ◌≤◌, ◌<◌}
@@ -19,6 +19,8 @@ use Rattle.card.proofs.HeaderLaws.{header_formatted}
 use Rattle.card.proofs.LineLaws.{seen_length, seen_only, on_root, on_node, on_first}
 use Rattle.change_plan.specs.Planning.{Preparation, refused, balanced, prepared}
 use Rattle.state.specs.Block.{places_at, values_at, state_words, block_word, part, memory_in}
+use Rattle.state.specs.Blocks.{over, words_of}
+use Rattle.card_free.specs.NodeSet.{word_count}
 use Rattle.state.specs.Memory.{Memory, advanced}
 use Rattle.state.specs.Results.{more_to_store}
 use Rattle.state.specs.Steps.{Step, step_refused, step_final, step_store}
@@ -27,10 +29,10 @@ use Rattle.state.specs.Answer.{Stored, Ready, Absent, Value, Refused}
 use Rattle.state.specs.declared.Doing.{Doing}
 use Rattle.state.specs.declared.Task.{Task}
 use Rattle.call_step.specs.Calls.{planning, step_prepared, step_begin, step_task, placed_on, on_card}
-use Rattle.call_step.specs.StepBlocks.{played_block, step_block}
+use Rattle.call_step.specs.StepBlocks.{settled_block, played_block, step_block}
 use Rattle.call_step.specs.Clauses.{StepMade, MadeOn, HoldsTask}
 use Rattle.call_step.proofs.ContractLaws.{store_refused, store_made}
-use Rattle.call_step.proofs.PlayLaws.{planned}
+use Rattle.call_step.proofs.PlayLaws.{planned, freed_nodes, played_on, ended}
 
 -- an answer that is not "stored"
 unfoldable pub Still : Answer → Type 0
@@ -115,21 +117,33 @@ module _ (line : ℕ) (card b : List ℕ) (is : IsLine line) (big : 8 ≤ length
   abbrev next_due : Step
   next_due = step_store (seen line card) (memory_in b) (get_or (memory_in b).rest 0 (0, 0)) (advanced (memory_in b) (drop 1 (memory_in b).rest))
 
-  pub next_refused : length card ≤ on_line line (block_word b (places_at + k)) → MadeOn line card b card b (Refused 9) next_due
-  unfolding Still
-  next_refused h =
-      let place = block_word b (places_at + k) in
-      made_still line card b (store_refused (seen line card) b long more k e (omega (arith, on_outside line (length card) place is big h, seen_length line card big))) tt
+  -- the place is looked at before the store
+  module _ (place at : ℕ) (named : place ≡ on_line line (block_word b (places_at + k))) (same : at ≡ place) where
+    pub next_refused : length card ≤ at → MadeOn line card b card b (Refused 9) next_due
+    unfolding Still
+    next_refused h =
+        let asked = block_word b (places_at + k) in
+        made_still line card b
+        (store_refused (seen line card) b long more k e (omega (arith, on_outside line (length card) asked is big (omega (arith, h, same, named)), seen_length line card big))) tt
 
-  pub next_made : {card_after after : List ℕ} {answer : Answer} (at : ℕ) → answer ≡ Stored (on_line line (block_word b (places_at + k)))
-      → HoldsTask (memory_in b).doing → at ≡ on_line line (block_word b (places_at + k)) → at < length card
-      → card_after ≡ set card at (get_or (part b values_at 73) k 0) → after ≡ played_block b (k + 1) (drop (k + 1) (planned b))
-      → MadeOn line card b card_after after answer next_due
-  next_made at told holds f h s w =
-      let place = block_word b (places_at + k) in
-      let inside : place < length (seen line card) = omega (arith, on_inside line (length card) place is big (subst (λ (x : ℕ). x < length card) f h), seen_length line card big) in
-      made_stored line card b place (get_or (part b values_at 73) k 0) inside
-      (store_made (seen line card) b long more k e place holds refl inside refl w) told (s ∙ ap (λ (x : ℕ). set card x (get_or (part b values_at 73) k 0)) f)
+    module _ {card_after after : List ℕ} (holds : HoldsTask (memory_in b).doing) (h : at < length card)
+        (s : card_after ≡ set card at (get_or (part b values_at 73) k 0)) where
+      next_made : after ≡ played_block b (k + 1) (drop (k + 1) (planned b)) → MadeOn line card b card_after after (Stored place) next_due
+      next_made w =
+          let asked = block_word b (places_at + k) in
+          let inside : asked < length (seen line card) = omega (arith, on_inside line (length card) asked is big (omega (arith, h, same, named)), seen_length line card big) in
+          made_stored line card b asked (get_or (part b values_at 73) k 0) inside
+          (store_made (seen line card) b long more k e asked holds refl inside refl w) (ap Stored named)
+          (s ∙ ap (λ (x : ℕ). set card x (get_or (part b values_at 73) k 0)) (same ∙ named))
+
+      -- another store is to come of the plan, or none
+      module _ (again : Bool) (left : again ≡ more_to_store (drop (k + 1) (planned b))) where
+        pub next_goes_on : again ≡ true → after ≡ set b 6 (k + 1) → MadeOn line card b card_after after (Stored place) next_due
+        next_goes_on t w = next_made (w ∙ played_on b long (k + 1) (drop (k + 1) (planned b)) (sym left ∙ t))
+
+        pub next_ends : again ≡ false → (counted : List ℕ) → counted ≡ set b 6 (k + 1)
+            → after ≡ settled_block (over (over counted 11 (words_of word_count (freed_nodes counted))) 8 (0 ∷ 0 ∷ 0 ∷ [])) → MadeOn line card b card_after after (Stored place) next_due
+        next_ends t counted w q = next_made (ended b long (k + 1) (drop (k + 1) (planned b)) (sym left ∙ t) w q)
 
 -- ---- the first line of a card
 

@@ -5,14 +5,15 @@ use mathlib.Core.List.{List, [], ◌∷◌, ◌++◌}
 use Prim.Native.Nat.{ℕ, suc, ◌+◌, ◌^◌, ◌≤◌, ◌<◌}
 use native.Mathlib.Omega.{arith}
 use lib.ListN.{length, get_or, take, drop, set, replicate, length-take, length-drop, length-set, take-append-drop, get_or-eq_default}
-use lib.Seq.{take_at, drop_at, drop-drop, get_or-take, get_or-drop}
+use lib.Seq.{take_at, drop_at, drop-drop, get_or-take, get_or-drop, set_out}
 use lib.Dec.{ltb, eqb}
 use borrow.Author.Tests.{ne_eqb}
 use Rattle.laws.specs.Lists.{before_zero}
 use Rattle.laws.proofs.Cases.{order, impossible, bool_cases}
 use Rattle.card.specs.Stores.{Store}
 use Rattle.card_family.specs.Families.{family_count, counted_in, counted_out}
-use Rattle.card_free.specs.NodeSet.{word_count, nodes_of}
+use Rattle.card_free.specs.NodeSet.{word_count, capacity, nodes_of}
+use Rattle.card_free.proofs.NodeSetLaws.{length_nodes}
 use Rattle.change_plan.specs.Plan.{stores_of}
 use Rattle.change_plan.specs.Planning.{with_all}
 use Rattle.state.specs.Memory.{settled_in, settled_out, settled_totals}
@@ -30,10 +31,18 @@ part_length b from n h = omega (arith, length-take n (drop from b), length-drop 
 pub part_word : (b : List ℕ) (from n i : ℕ) → i < n → get_or (part b from n) i 0 ≡ block_word b (from + i)
 part_word b from n i h = get_or-take n (drop from b) i 0 h ∙ get_or-drop from b i 0
 
+-- a value of the plan, stored on a card
+pub value_stored : (b card : List ℕ) (at k : ℕ) → k < 73 → set card at (block_word b (values_at + k)) ≡ set card at (get_or (part b values_at 73) k 0)
+value_stored b card at k h = ap (set card at) (sym (part_word b values_at 73 k h))
+
 pub part_small : (b : List ℕ) (from n : ℕ) → Words b → (i : ℕ) → get_or (part b from n) i 0 < 2 ^ 32
 part_small b from n w i =
     order i n (λ h. rw (part_word b from n i h) (w (from + i)))
     (λ h. rw (get_or-eq_default (part b from n) 0 {n = i} (omega (arith, length-take n (drop from b)))) (omega arith))
+
+-- a number that is no node's is in no set of nodes
+pub free_outside : (row : List ℕ) (m : ℕ) → length row ≡ word_count → capacity ≤ m → nodes_of row ≡ set (nodes_of row) m true
+free_outside row m l h = sym (set_out (nodes_of row) m true (omega (arith, length_nodes row)))
 
 -- ---- the state made idle
 
@@ -128,11 +137,11 @@ totals_stay what x y w totals p =
     (λ n₃. bool_cases (eqb what 4) (λ h. rw (n, n₂, n₃, h) refl) (λ n₄. rw (n, n₂, n₃, n₄) refl))))
 
 -- of a first change in hand the pair is counted
-pub counted_insert : (what key y : ℕ) (totals : List ℕ) → what ≡ 2 → settled_totals (doing_in what key y 1) totals ≡ counted_in key totals
+counted_insert : (what key y : ℕ) (totals : List ℕ) → what ≡ 2 → settled_totals (doing_in what key y 1) totals ≡ counted_in key totals
 unfolding doing_in phase_in settled_totals settled_in
 counted_insert what key y totals e = rw e refl
 
-pub counted_delete : (what key y : ℕ) (totals : List ℕ) → what ≡ 3 → settled_totals (doing_in what key y 1) totals ≡ counted_out key totals
+counted_delete : (what key y : ℕ) (totals : List ℕ) → what ≡ 3 → settled_totals (doing_in what key y 1) totals ≡ counted_out key totals
 unfolding doing_in phase_in settled_totals settled_out
 counted_delete what key y totals e = rw e refl
 
@@ -149,6 +158,22 @@ totals_again b l =
     ap (λ (k : ℕ). drop (totals_at + k) b) (part_length b totals_at family_count (omega arith)) ∙ sym (drop-drop family_count totals_at b) in
     ap (λ (x : List ℕ). take totals_at b ++ x) (ap (λ (x : List ℕ). part b totals_at family_count ++ x) after ∙ take-append-drop family_count (drop totals_at b))
     ∙ take-append-drop totals_at b
+
+-- the totals in place after the pair of a first change is counted
+module _ (b row : List ℕ) (long : length b ≡ state_words) (same : length row ≡ length (part b totals_at family_count)) where
+  row_over : placed totals_at family_count b row ≡ totalled b row
+  row_over = sym (over_placed b row totals_at family_count (same ∙ part_length b totals_at family_count (omega arith)))
+
+  abbrev Counts : Type 0
+  Counts =
+      placed totals_at family_count b row
+      ≡ totalled b (settled_totals (doing_in (block_word b 2) (block_word b 3) (block_word b 4) 1) (part b totals_at family_count))
+
+  pub inserted_row : block_word b 2 ≡ 2 → row ≡ counted_in (block_word b 3) (part b totals_at family_count) → Counts
+  inserted_row e put = row_over ∙ ap (totalled b) (put ∙ sym (counted_insert (block_word b 2) (block_word b 3) (block_word b 4) (part b totals_at family_count) e))
+
+  pub deleted_row : block_word b 2 ≡ 3 → row ≡ counted_out (block_word b 3) (part b totals_at family_count) → Counts
+  deleted_row e put = row_over ∙ ap (totalled b) (put ∙ sym (counted_delete (block_word b 2) (block_word b 3) (block_word b 4) (part b totals_at family_count) e))
 
 -- word 5 and the totals after the last store of a change
 pub settled_hand : (b : List ℕ) → 11 ≤ length b → block_word b 5 ≡ 1

@@ -7,8 +7,6 @@ use Prim.Native.Nat.{ℕ, ◌≤◌}
 use native.Mathlib.Omega.{arith}
 use native.Mathlib.Decide.{ℕ_discrete}
 use lib.ListN.{length, get_or, drop}
-use denote.Enum.Declared.{tag_of}
-use types.Run.{OneOf, miss}
 use borrow.Author.Tests.{ne_eqb, eq-eqb}
 use Rattle.laws.proofs.Cases.{impossible}
 use Rattle.card.specs.Header.{nodes_of_length, header_refusal, Sized}
@@ -18,7 +16,8 @@ use Rattle.card.specs.Stores.{Store}
 use Rattle.state.specs.Memory.{Memory, advanced}
 use Rattle.state.specs.Results.{more_to_store}
 use Rattle.state.specs.Steps.{Step, is_idle, held_by, step_refused, step_store, format_store, step_format}
-use Rattle.state.specs.Block.{state_words, block_word, doing_in, memory_in}
+use Rattle.state.specs.declared.State.{State}
+use Rattle.state.specs.Block.{state_words, block_word, doing_in, head_in, memory_in}
 use Rattle.state.specs.Answer.{Answer}
 use Rattle.state.specs.Answer.{Refused}
 use Rattle.state.specs.declared.Answer.TheVariants.{Ready as AnswerReady, Absent as AnswerAbsent, Value as AnswerValue}
@@ -27,13 +26,13 @@ use Rattle.state.specs.declared.Doing.TheVariants.{Idle, Formatting, Inserting, 
 use Rattle.state.specs.declared.Phase.TheVariants.{NotBegun, InHand, Decided}
 use Rattle.state.specs.declared.Task.{Task}
 use Rattle.state.specs.declared.Task.TheVariants.{PutIn, TakeOut, Repair}
-use Rattle.state.specs.contracts.Held.{the_type}
 use Rattle.state.specs.declared.Held.{Held}
 use Rattle.state.specs.declared.Held.TheVariants.{Nothing, Formatting as HeldFormatting, Task as HeldTask}
 use Rattle.state.proofs.StepLaws.{more_none}
 use Rattle.call_step.specs.Calls.{step_task, on_card, step_checked, step_held, step_of}
-use Rattle.call_step.specs.Clauses.{StepMade, StepCall, HoldsTask}
-use Rattle.call_step.proofs.LineSteps.{first_line_lem}
+use Rattle.call_step.specs.Clauses.{StepMade, MadeOn, StepCall, HoldsTask}
+use Rattle.call_step.proofs.ContractLaws.{refused_on_lem}
+use Rattle.call_step.proofs.LineSteps.{as_made, first_line_lem}
 use Rattle.call_step.proofs.StepMemory.{held_formatting, formatting_word, step_right}
 
 -- ---- a call
@@ -103,7 +102,7 @@ module _ (line : ℕ) (card : List ℕ) (m : Memory) where
         → step_held line card m (held_by m.doing) ≡ on_card line card (step_store (seen line card) m (get_or m.rest 0 (0, 0)) (advanced m (drop 1 m.rest)))
     task_stores (task, holds) b = ap (step_held line card m) holds ∙ task_on_line task ∙ ap (on_card line card) (task_store (seen line card) m task m.rest b)
 
-    pub task_plans : (task : Task) → held_by m.doing ≡ HeldTask task → m.rest ≡ []
+    task_plans : (task : Task) → held_by m.doing ≡ HeldTask task → m.rest ≡ []
         → step_held line card m (held_by m.doing) ≡ on_card line card (step_task (seen line card) m task [])
     task_plans task holds none = ap (step_held line card m) holds ∙ task_on_line task ∙ ap (λ (ss : List Store). on_card line card (step_task (seen line card) m task ss)) none
 
@@ -132,11 +131,11 @@ module _ (b : List ℕ) where
   unfolding memory_in
   not_formatting p made e = p (formatting_word _ _ _ _ made (held_formatting (memory_in b).doing made e))
 
-  -- so that a state which holds no task, the variants 0 and 1 of what may be held, holds nothing
-  pub holds_nothing : (block_word b 2 ≡ 1 → ⊥) → (h : Held) → held_by (memory_in b).doing ≡ h → OneOf (0 ∷ 1 ∷ []) (tag_of the_type h) → h ≡ Nothing
-  holds_nothing p Nothing e o = refl
-  holds_nothing p (HeldFormatting made) e o = absurd (not_formatting p made e)
-  holds_nothing p (HeldTask task) e o = absurd (miss (0 ∷ 1 ∷ []) 2 tt o)
+  -- so that a state which holds no task holds nothing
+  holds_nothing : (block_word b 2 ≡ 1 → ⊥) → (h : Held) → held_by (memory_in b).doing ≡ h → ((task : Task) → h ≡ HeldTask task → ⊥) → h ≡ Nothing
+  holds_nothing p Nothing e q = refl
+  holds_nothing p (HeldFormatting made) e q = absurd (not_formatting p made e)
+  holds_nothing p (HeldTask task) e q = absurd (q task refl)
 
   pub doing_format : (line : ℕ) (card : List ℕ) → block_word b 2 ≡ 1
       → step_held line card (memory_in b) (held_by (memory_in b).doing)
@@ -175,6 +174,42 @@ held_busy (Deleting key begun value) task e = refl
 held_busy (Repairing key) task e = refl
 
 -- none is to come for a task
-pub none_left : (doing : Doing) (task : Task) (rest : List Store) → held_by doing ≡ HeldTask task
+none_left : (doing : Doing) (task : Task) (rest : List Store) → held_by doing ≡ HeldTask task
     → not (is_idle doing) && more_to_store rest ≡ false → rest ≡ []
 none_left doing task rest e h = more_none rest (ap (λ (t : Bool). not t && more_to_store rest) (sym (held_busy doing task e)) ∙ h)
+
+-- ---- a step that has no store left to make
+
+module _ (b : List ℕ) (head : State) (read : head ≡ head_in b) where
+  pub head_doing : head.doing ≡ (memory_in b).doing
+  unfolding head_in memory_in
+  head_doing = ap (λ (h : State). h.doing) read
+
+  module _ (held : Held) (found : held ≡ held_by head.doing) where
+    head_holds : held_by (memory_in b).doing ≡ held
+    head_holds = ap held_by (sym head_doing) ∙ sym found
+
+    module _ (task : Task) (is : held ≡ HeldTask task) where
+      pub head_task : held_by (memory_in b).doing ≡ HeldTask task
+      head_task = head_holds ∙ is
+
+      pub head_rest : not (is_idle (memory_in b).doing) && more_to_store (memory_in b).rest ≡ false → (memory_in b).rest ≡ []
+      head_rest none = none_left (memory_in b).doing task (memory_in b).rest head_task none
+
+    module _ (line : ℕ) (card : List ℕ) (checks : header_refusal card (block_word b 0) ≡ 0) where
+      abbrev Plans : List ℕ → List ℕ → Answer → Type 0
+      Plans card_after after answer =
+          StepMade (seen line card) b card_after after answer (step_held line card (memory_in b) (held_by (memory_in b).doing))
+
+      pub plans_nothing : (block_word b 2 ≡ 1 → ⊥) → ((task : Task) → held ≡ HeldTask task → ⊥) → Plans card b (Refused 10)
+      unfolding memory_in
+      plans_nothing p q =
+          refused_on_lem (seen line card) b card 10
+          (ap (step_held line card (memory_in b)) (head_holds ∙ holds_nothing b p held head_holds q) ∙ idle_refused line card (memory_in b) checks)
+
+      pub plans_task : (task : Task) → held ≡ HeldTask task → not (is_idle (memory_in b).doing) && more_to_store (memory_in b).rest ≡ false
+          → {card_after after : List ℕ} {answer : Answer} → MadeOn line card b card_after after answer (step_task (seen line card) (memory_in b) task [])
+          → Plans card_after after answer
+      unfolding memory_in
+      plans_task task is none made =
+          as_made line card b (task_plans line card (memory_in b) checks task (head_task task is) (head_rest task is none)) made

@@ -18,6 +18,7 @@ const HEADER: u32 = card::HEADER_WORDS as u32;
 const NODE: u32 = card::NODE_WORDS as u32;
 
 // Word i of a formatted card with n nodes, but the mark: "root node 1, an empty leaf, all else 0".
+#[tactic(auto, unfolding(state::specs::Steps::formatted_word))]
 fn formatted_word(n: usize, i: usize) -> u32
     requires { n ≤ greatest_nodes }
     ensures { result ≡ formatted_word n i }
@@ -45,6 +46,7 @@ fn store_format(card: &mut [u32], state: &mut [u32], place: u32, word: u32) -> A
 }
 
 // The store after so many, or the end: "so 8 + 24 × N + 1 stores, then ready".
+#[tactic(auto, using(crate::proofs::ContractLaws::formats_end))]
 pub fn step_format(card: &mut [u32], state: &mut [u32]) -> Answer
     requires { (length state.old ≡ state_words) × (block_word state.old 2 ≡ 1) × Sized greatest_nodes (length card.old) (block_word state.old 0) }
     ensures { StepMade card.old state.old card.new state.new (given result)

@@ -31,6 +31,7 @@ fn clear_task(state: &mut [u32])
 }
 
 // "or gives the final answer and makes the state idle": the rows are left as they are.
+#[tactic(auto, using(crate::proofs::PlayLaws::idled_stored))]
 pub fn finish(state: &mut [u32])
     requires { length state.old ≡ state_words }
     ensures { state.new ≡ idled_block state.old }
@@ -42,6 +43,7 @@ pub fn finish(state: &mut [u32])
 }
 
 // Node m is free. A number that is no node's changes nothing.
+#[tactic(auto, using(crate::proofs::PlayLaws::free_outside))]
 fn free_node(free: &mut [u32], m: usize)
     requires { length free.old ≡ word_count }
     ensures { nodes_of free.new ≡ set (nodes_of free.old) m true }
@@ -76,6 +78,7 @@ fn clear_cut(state: &mut [u32])
 }
 
 // The pair of an insert or a delete is counted in or out of its family's total.
+#[tactic(auto, using(crate::proofs::PlayLaws::inserted_row, crate::proofs::PlayLaws::deleted_row, crate::proofs::PlayLaws::counted_none, crate::proofs::PlayLaws::totals_again))]
 fn count_pair(state: &mut [u32])
     requires { length state.old ≡ state_words }
     ensures { state.new ≡ totalled state.old
@@ -92,6 +95,7 @@ fn count_pair(state: &mut [u32])
 
 // The last store of a first change decides its call, and its pair is in or out ("changed at the very step that puts a pair in or takes it
 // out": document 02, W-204). Of anything else word 5 is not read, or says so already.
+#[tactic(auto, using(crate::proofs::PlayLaws::settled_hand, crate::proofs::PlayLaws::settled_other))]
 fn settle(state: &mut [u32])
     requires { length state.old ≡ state_words }
     ensures { state.new ≡ settled_block state.old }
@@ -104,6 +108,7 @@ fn settle(state: &mut [u32])
 }
 
 // Whether a store of the plan is still to come after so many. A block may hold any numbers, so both ends are looked at.
+#[tactic(auto, using(crate::proofs::PlayLaws::plan_full, crate::proofs::PlayLaws::plan_test))]
 fn in_hand(state: &[u32], made: usize) -> bool
     requires { length state.now ≡ state_words }
     ensures { result
@@ -116,6 +121,7 @@ fn in_hand(state: &[u32], made: usize) -> bool
 }
 
 // Whether the next step makes a store of the change in hand.
+#[tactic(auto, using(crate::proofs::ContractLaws::idle_stores, crate::proofs::ContractLaws::unknown_stores, crate::proofs::ContractLaws::held_stores))]
 pub fn has_store(state: &[u32]) -> bool
     requires { length state.now ≡ state_words }
     ensures { result ≡ not (is_idle (memory_in state.now).doing) && more_to_store (memory_in state.now).rest }
@@ -131,6 +137,7 @@ pub fn has_store(state: &[u32]) -> bool
 }
 
 // The store of the plan after so many is made, in this place, and counted in the block; the answer is whether another is to come.
+#[tactic(auto, using(crate::proofs::PlayLaws::value_stored))]
 pub fn store_word(card: &mut [u32], state: &mut [u32], made: usize, at: usize) -> bool
     requires { (length state.old ≡ state_words) × (made < 73) × (at < length card.old) }
     ensures value { result ≡ more_to_store (drop (made + 1) (stores_of (part state.old places_at 73) (part state.old values_at 73) (block_word state.old 7))) }
@@ -157,6 +164,7 @@ pub fn end_change(state: &mut [u32])
 
 // The next store of the plan, which has one; "or its store is outside the card": refused. The place is looked at before the store, so
 // that a refusal stores nothing. The plan is that of the line's own table.
+#[tactic(auto, using(crate::proofs::ContractLaws::next_below, crate::proofs::ContractLaws::next_in_block))]
 pub fn store_next(card: &mut [u32], state: &mut [u32], line: u32) -> Result<Answer, Refusal>
     requires { (length state.old ≡ state_words) × (more_to_store (memory_in state.old).rest ≡ true)
         × HoldsTask (memory_in state.old).doing × (8 ≤ length card.old) × IsLine line }
