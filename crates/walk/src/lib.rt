@@ -203,9 +203,6 @@ pub fn find_beside(card: &[u32], n: usize, key: u32, root: usize) -> Option<Besi
         }
         let node = card::node_at(card, m);
         match go_down(node, key) {
-            Down::Nowhere => {
-                return None;
-            }
             Down::Leaf => {
                 return Some(Beside {
                     node: m,
@@ -213,7 +210,7 @@ pub fn find_beside(card: &[u32], n: usize, key: u32, root: usize) -> Option<Besi
                     depth,
                 });
             }
-            Down::Childless => {
+            Down::Nowhere | Down::Childless => {
                 return None;
             }
             Down::Inner { index, child } => {
