@@ -1,7 +1,7 @@
 use Rattle.std.proofs.Common.{◌+◌, ◌-◌, refl, sym, ◌∙◌, ap, arith}
 use Rattle.card.specs.Layout.{depth_limit}
 use Rattle.walk.specs.Descent.{root_position, way_from}
-use Rattle.walk.proofs.DescentLaws.{inside, node_words, taken_le, onward_none, onward_deeper, passed_inner}
+use Rattle.walk.proofs.DescentLaws.{onward_none, onward_deeper, passed_inner}
 use Rattle.walk.proofs.DescentLaws.{stopped, end_below, end_start, end_nowhere, end_leaf, end_leaf_fault, end_past, end_fault}
 use Rattle.walk.proofs.Rest.{rest_outside, rest_at}
 use Rattle.walk.proofs.descend.Goals as goal
@@ -15,25 +15,10 @@ returns-then-is_outside c =
     let l = c.loop-p in
     sym (rest_outside (end_below l.depth _ c.args.seeks) _ _ _ _ _ refl l.invariant.1 c.is_outside.ensures c.if-is_outside.true ∙ end_nowhere _ _ _)
 
-pub node_at-node-requires : goal.node_at-node-requires
-node_at-node-requires c = let k = inside _ _ (sym c.is_outside.ensures ∙ c.if-is_outside.false) in (k.one, omega (arith, k.most), omega (arith, k.most))
-
-pub go_down-requires : goal.go_down-requires
-go_down-requires c = node_words _ _ _ c.requires.0 (sym c.is_outside.ensures ∙ c.if-is_outside.false) _ c.node_at-node.ensures
-
 pub returns-in-Nowhere : goal.returns-in-Nowhere
 returns-in-Nowhere c =
     let l = c.loop-p in
     sym (rest_at (end_below l.depth _ c.args.seeks) _ _ _ _ _ refl l.invariant.1 c.is_outside.ensures c.if-is_outside.false c.node_at-node.ensures c.go_down.ensures _ c.in-Nowhere.is ∙ end_nowhere _ _ _)
-
-pub stops-requires : goal.stops-requires
-stops-requires c = node_words _ _ _ c.requires.0 (sym c.is_outside.ensures ∙ c.if-is_outside.false) _ c.node_at-node.ensures
-
-pub stops-requires-in-Childless : goal.stops-requires-in-Childless
-stops-requires-in-Childless c = node_words _ _ _ c.requires.0 (sym c.is_outside.ensures ∙ c.if-is_outside.false) _ c.node_at-node.ensures
-
-pub stops-requires-in-Inner : goal.stops-requires-in-Inner
-stops-requires-in-Inner c = node_words _ _ _ c.requires.0 (sym c.is_outside.ensures ∙ c.if-is_outside.false) _ c.node_at-node.ensures
 
 pub returns-then-stops : goal.returns-then-stops
 returns-then-stops c =
@@ -79,28 +64,6 @@ returns-then-is_too_deep c =
     ∙ ap (end_below (l.depth + 1) c.args.card.now c.args.seeks)
     (onward_none _ _ _ (depth_limit - l.depth) _ (omega (arith, c.is_too_deep.ensures.0 c.if-is_too_deep.true)))
     ∙ end_nowhere _ _ _)
-
-pub passed_with-depth-requires : goal.passed_with-depth-requires
-passed_with-depth-requires c = (
-  node_words _ _ _ c.requires.0 (sym c.is_outside.ensures ∙ c.if-is_outside.false) _ c.node_at-node.ensures,
-  c.loop-p.invariant.0,
-)
-
-pub child_of-p-requires : goal.child_of-p-requires
-child_of-p-requires c =
-    let k = inside _ _ (sym c.is_outside.ensures ∙ c.if-is_outside.false) in
-    let words = node_words _ _ _ c.requires.0 (sym c.is_outside.ensures ∙ c.if-is_outside.false) _ c.node_at-node.ensures in
-    (k.one, omega (arith, k.most), taken_le _ _ _ _ words (sym c.go_down.ensures ∙ c.in-Inner.is))
-
--- the node passed is counted
-pub loop-p-smaller : goal.loop-p-smaller
-loop-p-smaller c =
-    omega (
-      arith,
-      c.passed_with-depth.ensures ∙ passed_inner _ _ _ _ _ (sym c.go_down.ensures ∙ c.in-Inner.is),
-      c.loop-p.invariant.0,
-      c.is_too_deep.ensures.1 c.if-is_too_deep.false,
-    )
 
 pub loop-p-preserved : goal.loop-p-preserved
 loop-p-preserved c =

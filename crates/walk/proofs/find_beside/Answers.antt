@@ -2,7 +2,7 @@ use Rattle.std.proofs.Common.{ℕ, ◌+◌, ◌-◌, refl, sym, ◌∙◌, ap, a
 use mathlib.Core.Logic.{⊎_elim}
 use Rattle.card.specs.Layout.{depth_limit}
 use Rattle.walk.specs.Descent.{child_at, root_position, Way, past}
-use Rattle.walk.proofs.DescentLaws.{inside, node_words, told, taken_le, onward_none, onward_deeper, passed_inner, root_node}
+use Rattle.walk.proofs.DescentLaws.{told, onward_none, onward_deeper, passed_inner, root_node}
 use Rattle.walk.proofs.DescentLaws.{leaf_beside, beside_below, beside_start, beside_nowhere, beside_stop, beside_leaf, beside_past}
 use Rattle.walk.proofs.Rest.{rest_outside, rest_at}
 use Rattle.walk.proofs.find_beside.Goals as goal
@@ -14,12 +14,6 @@ pub returns-then-is_outside : goal.returns-then-is_outside
 returns-then-is_outside c =
     let l = c.loop-n in
     sym (rest_outside (beside_below l.depth _ _ l.beside) _ _ _ _ _ l.invariant.2 l.invariant.3 c.is_outside.ensures c.if-is_outside.true ∙ beside_nowhere _ _ _ _)
-
-pub node_at-node-requires : goal.node_at-node-requires
-node_at-node-requires c = let k = inside _ _ (sym c.is_outside.ensures ∙ c.if-is_outside.false) in (k.one, omega (arith, k.most), omega (arith, k.most))
-
-pub go_down-requires : goal.go_down-requires
-go_down-requires c = node_words _ _ _ c.requires.0 (sym c.is_outside.ensures ∙ c.if-is_outside.false) _ c.node_at-node.ensures
 
 pub returns-in-Nowhere : goal.returns-in-Nowhere
 returns-in-Nowhere c =
@@ -42,27 +36,6 @@ returns-then-is_too_deep c =
     ∙ ap (λ (w : Way). beside_below l.depth c.args.card.now c.args.key l.beside (past l.invariant.1 w))
     (onward_none _ _ _ (depth_limit - l.depth) _ (omega (arith, c.is_too_deep.ensures.0 c.if-is_too_deep.true)))
     ∙ beside_stop _ _ _ _ _)
-
-pub beside_after-beside-requires : goal.beside_after-beside-requires
-beside_after-beside-requires c =
-    let words = node_words _ _ _ c.requires.0 (sym c.is_outside.ensures ∙ c.if-is_outside.false) _ c.node_at-node.ensures in
-    (words, taken_le _ _ _ _ words (sym c.go_down.ensures ∙ c.in-Inner.is))
-
-pub passed_with-depth-requires : goal.passed_with-depth-requires
-passed_with-depth-requires c = (
-  node_words _ _ _ c.requires.0 (sym c.is_outside.ensures ∙ c.if-is_outside.false) _ c.node_at-node.ensures,
-  c.loop-n.invariant.0,
-)
-
--- the node passed is counted
-pub loop-n-smaller : goal.loop-n-smaller
-loop-n-smaller c =
-    omega (
-      arith,
-      c.passed_with-depth.ensures ∙ passed_inner _ _ _ _ _ (sym c.go_down.ensures ∙ c.in-Inner.is),
-      c.loop-n.invariant.0,
-      c.is_too_deep.ensures.1 c.if-is_too_deep.false,
-    )
 
 pub loop-n-preserved : goal.loop-n-preserved
 loop-n-preserved c =
