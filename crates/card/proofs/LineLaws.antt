@@ -122,14 +122,6 @@ pub line_one : (card : List ℕ) → has_line card 1 ≡ true
 unfolding has_line
 line_one card = refl
 
-pub is_first : (card : List ℕ) (line : ℕ) → line ≡ 1 → eqb line 1 ≡ has_line card line
-unfolding has_line
-is_first card line e = rw (eq-eqb line 1 e)
-
-pub is_second : (card : List ℕ) (line : ℕ) → line ≡ 2 → eqb (get_or card 0 0) 2 ≡ has_line card line
-unfolding has_line
-is_second card line e = rw e
-
 pub is_neither : (card : List ℕ) (line : ℕ) → (line ≡ 1 → ⊥) → (line ≡ 2 → ⊥) → eqb line 2 ≡ has_line card line
 unfolding has_line
 is_neither card line a b = rw (ne_eqb line 1 a, ne_eqb line 2 b)
@@ -142,9 +134,6 @@ pub has_is : (card : List ℕ) (line : ℕ) → has_line card line ≡ true → 
 has_is card line h =
     by_cases (ℕ_discrete line 2) (λ e. record { from = omega arith; to = omega arith })
     (λ b. let e = not_second card line h b in record { from = omega arith; to = omega arith })
-
-pub not_the_second : (line : ℕ) → IsLine line → (line ≡ 2 → ⊥) → line ≡ 1
-not_the_second line is b = by_cases (ℕ_discrete line 1) (λ e. e) (λ a. absurd (b (omega (arith, is.from, is.to, a))))
 
 -- ---- where a store stands
 

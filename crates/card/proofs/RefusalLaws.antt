@@ -1,5 +1,5 @@
 -- Laws of the numbers of refusals.
-use Rattle.std.proofs.Common.{◌≡◌, ℕ, arith, refl, true, false, Result, Ok, Err, is_err}
+use Rattle.std.proofs.Common.{◌≡◌, arith, refl, true, false, Result, Ok, Err, is_err}
 use Rattle.laws.proofs.Cases.{impossible}
 use Rattle.card.specs.Refusals.{number, number_of}
 use Rattle.card.specs.declared.refusal.Refusal.{Refusal}

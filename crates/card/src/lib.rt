@@ -98,11 +98,7 @@ pub const KEY_LIMIT: u64 = 4294967296;
 pub fn limit(greatest: usize) -> usize
     ensures { (result ≡ limited greatest) × (result ≤ greatest_nodes) }
 {
-    if greatest < GREATEST_NODES {
-        greatest
-    } else {
-        GREATEST_NODES
-    }
+    greatest.min(GREATEST_NODES)
 }
 
 // How many nodes a card of so many words has, where there is a card of that length.
@@ -127,13 +123,7 @@ pub fn nodes_of(length: usize, greatest: usize) -> Option<usize>
 pub fn is_sized(length: usize, n: usize, greatest: usize) -> bool
     ensures { (result ≡ true → Sized greatest length n) × (result ≡ false → Sized greatest length n → ⊥) }
 {
-    if n < LEAST_NODES {
-        return false;
-    }
-    if limit(greatest) < n {
-        return false;
-    }
-    length == HEADER_WORDS + NODE_WORDS * n
+    LEAST_NODES <= n && n <= limit(greatest) && length == HEADER_WORDS + NODE_WORDS * n
 }
 
 // Words 0 to 3 and 5 to 7 of a card with n nodes are as they must be, or refused with 2 or 3.
@@ -176,6 +166,7 @@ pub fn checked_nodes(card: &[u32], greatest: usize) -> Result<usize, Refusal>
 }
 
 // Whether a card has a line of this number: one with mark 1 has line 1, one with mark 2 has lines 1 and 2 (document 02, W-207).
+#[tactic(auto, unfolding(crate::specs::Lines::has_line))]
 pub fn has_line(card: &[u32], line: u32) -> bool
     requires { 8 ≤ length card.now }
     ensures { result ≡ has_line card.now line }
@@ -200,6 +191,7 @@ const ROOT_LINK: u32 = ROOT_PLACE as u32;
 const SECOND_LINK: u32 = SECOND_ROOT as u32;
 
 // Where a store of a line's own table stands on the card: the link to the root in the line's word for it, all others where they are.
+#[tactic(auto, unfolding(crate::specs::Lines::on_line))]
 pub fn on_line(line: u32, place: u32) -> u32
     requires { IsLine line }
     ensures { result ≡ on_line line place }
@@ -214,6 +206,7 @@ pub fn on_line(line: u32, place: u32) -> u32
 }
 
 // Node m: the 24-word part of the card that starts at word 8 + 24 × (m − 1).
+#[tactic(auto, unfolding(crate::specs::Layout::node_at))]
 pub fn node_at(card: &[u32], m: usize) -> &[u32]
     requires { (1 ≤ m) × (m ≤ greatest_nodes) × (8 + 24 * m ≤ length card.now) }
     ensures { result.now ≡ node_at card.now m }

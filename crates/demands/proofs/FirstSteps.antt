@@ -44,8 +44,9 @@ use Rattle.state.specs.Steps.{Step, step_refused}
 use Rattle.state.specs.declared.Doing.{Doing}
 use Rattle.state.specs.declared.Doing.TheVariants.{Inserting, Deleting, Repairing}
 use Rattle.state.specs.declared.Phase.TheVariants.{NotBegun, InHand, Decided}
-use Rattle.state.specs.Answer.{Answer}
-use Rattle.state.specs.Answer.{Ready, Absent, Value}
+use Rattle.state.specs.Answer.{Answer, given as told_given}
+use Rattle.state.specs.declared.Answer.{Answer as GivenAnswer}
+use Rattle.state.specs.declared.Answer.TheVariants.{Ready as GivenReady, Absent as GivenAbsent, Value as GivenValue}
 use Rattle.state.specs.declared.Task.{Task}
 use Rattle.state.specs.declared.Task.TheVariants.{PutIn, TakeOut, Repair}
 use Rattle.state.proofs.Tasks.{in_hand_lem, decided, TaskOf, putting, taking, put, taken, opened, task_of}
@@ -257,10 +258,11 @@ module _ (greatest : ℕ) (c : List ℕ) (m : Memory) (key : ℕ) (a : Answer) (
   repair_decided (Merge p) = over_given greatest c m m.doing a w 2 (merge_at c p) (λ ms. refl)
   repair_decided (MergeRoot p) = over_given greatest c m m.doing a w 1 (merge_root_at c p) (λ ms. refl)
 
-  repair_next : Sized greatest (length c) m.nodes → Nine greatest c m (Unmakeable c m.free m.last (decided_repair c (nodes_on c) key))
-      (step_begin c m (next_change c m.nodes m.free m.last m.doing (Repair key a)))
-  unfolding step_begin next_change next_repair
-  repair_next s = rw (sized_on greatest c m.nodes s) (repair_decided (decided_repair c m.nodes key))
+repair_next : (greatest : ℕ) (c : List ℕ) (m : Memory) (key : ℕ) (a : GivenAnswer) → Final (told_given a) → work_of m.doing ≡ begun (work_of m.doing)
+    → Sized greatest (length c) m.nodes
+    → Nine greatest c m (Unmakeable c m.free m.last (decided_repair c (nodes_on c) key)) (step_begin c m (next_change c m.nodes m.free m.last m.doing (Repair key a)))
+unfolding step_begin next_change next_repair
+repair_next greatest c m key a f w s = rw (sized_on greatest c m.nodes s) (repair_decided greatest c m key (told_given a) f w (decided_repair c m.nodes key))
 
 -- ---- any of them
 
@@ -268,7 +270,7 @@ module _ (greatest : ℕ) (c : List ℕ) (m : Memory) (s : Sized greatest (lengt
   abbrev Begins : Doing → Task → Type 0
   Begins doing task = Nine greatest c m (NoChange c m.free m.last (work_of doing)) (step_begin c m (next_change c m.nodes m.free m.last doing task))
 
-  repairs : (key : ℕ) (a : Answer) → Final a → (doing : Doing) → m.doing ≡ doing → work_of doing ≡ begun (work_of doing)
+  repairs : (key : ℕ) (a : GivenAnswer) → Final (told_given a) → (doing : Doing) → m.doing ≡ doing → work_of doing ≡ begun (work_of doing)
       → Nine greatest c m (Unmakeable c m.free m.last (decided_repair c (nodes_on c) key)) (step_begin c m (next_change c m.nodes m.free m.last doing (Repair key a)))
   repairs key a f doing e w =
       subst (λ (x : Doing). Nine greatest c m (Unmakeable c m.free m.last (decided_repair c (nodes_on c) key)) (step_begin c m (next_change c m.nodes m.free m.last x (Repair key a)))) e
@@ -278,11 +280,11 @@ module _ (greatest : ℕ) (c : List ℕ) (m : Memory) (s : Sized greatest (lengt
   unfolding NoChange work_of has_begun begun
   begins (putting {key} {value}) e = insert_at_lem greatest c m key value e s (landing c m.nodes key) refl
   begins (taking {key} {value}) e = delete_at_lem greatest c m key value e s (landing c m.nodes key) refl
-  begins (put {key} {value} in_hand_lem) e = repairs key Absent (inr (inr refl)) (Inserting key value InHand) e refl
-  begins (put {key} {value} decided) e = repairs key Absent (inr (inr refl)) (Inserting key value Decided) e refl
-  begins (taken {key} {value} in_hand_lem) e = repairs key (Value value) (inr (inl (value, refl))) (Deleting key InHand value) e refl
-  begins (taken {key} {value} decided) e = repairs key (Value value) (inr (inl (value, refl))) (Deleting key Decided value) e refl
-  begins (opened {key}) e = repairs key Ready (inl refl) (Repairing key) e refl
+  begins (put {key} {value} in_hand_lem) e = repairs key GivenAbsent (inr (inr refl)) (Inserting key value InHand) e refl
+  begins (put {key} {value} decided) e = repairs key GivenAbsent (inr (inr refl)) (Inserting key value Decided) e refl
+  begins (taken {key} {value} in_hand_lem) e = repairs key (GivenValue value) (inr (inl (value, refl))) (Deleting key InHand value) e refl
+  begins (taken {key} {value} decided) e = repairs key (GivenValue value) (inr (inl (value, refl))) (Deleting key Decided value) e refl
+  begins (opened {key}) e = repairs key GivenReady (inl refl) (Repairing key) e refl
 
 change_rows : (greatest : ℕ) (c : List ℕ) (m : Memory) → m.rest ≡ [] → (work_of m.doing ≡ formatting → ⊥)
     → ByRows (step_rows greatest (ration_table greatest) c m (NoChange c m.free m.last (work_of m.doing)))

@@ -155,29 +155,25 @@ impl From<Doing> for [u32; 4] {
 }
 
 // Whether nothing is being done. Any number that is none of the four is idle, and in a block that is no state nothing is being done.
+#[tactic(auto, unfolding(crate::specs::Block::memory_in, crate::specs::Block::doing_in, crate::specs::Steps::is_idle))]
 pub fn is_idle(state: &[u32]) -> bool
     ensures of_state { length state.now ≡ state_words → result ≡ is_idle (memory_in state.now).doing }
     ensures of_no_state { (length state.now ≡ state_words → ⊥) → result ≡ true }
 {
-    if state.len() != STATE_WORDS {
-        return true;
-    }
-    let doing = state[DOING];
-    if doing == IDLE {
-        return true;
-    }
-    REPAIRING < doing
+    state.len() != STATE_WORDS || state[DOING] == IDLE || REPAIRING < state[DOING]
 }
 
 // The internal nodes on the key's way of the update begun last, as it was then (document 02, W-203). A block that is no state has none.
+#[tactic(auto, unfolding(crate::specs::Block::memory_in))]
 pub fn depth_kept(state: &[u32]) -> u32
     ensures of_state { length state.now ≡ state_words → result ≡ (memory_in state.now).depth }
     ensures of_no_state { (length state.now ≡ state_words → ⊥) → result ≡ 0 }
 {
-    if state.len() != STATE_WORDS {
-        return 0;
+    if state.len() == STATE_WORDS {
+        state[DEPTH]
+    } else {
+        0
     }
-    state[DEPTH]
 }
 
 // Words 0 to 10: the state but its free nodes and rows, whatever the words are.

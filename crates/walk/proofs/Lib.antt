@@ -4,3 +4,5 @@ pub mod DescentLaws
 pub mod Along
 -- a line's way down is the card's from the line's root: the walk reads nothing of the header
 pub mod LineWays
+-- what is read off the rest of a way, by what the node in hand is to the key
+pub mod Rest

@@ -137,6 +137,7 @@ pub struct Reached {
 }
 
 // None is refusal 9. A find needs the leaf alone, and so keeps no position.
+#[tactic(auto, using(crate::proofs::DescentLaws::inside, crate::proofs::DescentLaws::node_words, crate::proofs::DescentLaws::passed_inner))]
 pub fn find_leaf(card: &[u32], n: usize, key: u32, root: usize) -> Option<Reached>
     requires { (length card.now ≡ 8 + 24 * n) × (n ≤ greatest_nodes) }
     ensures { result ≡ leaf_of (way_from card.now n key depth_limit (root_position root)) }
@@ -190,6 +191,7 @@ pub struct Beside {
 }
 
 // None is refusal 9.
+#[tactic(auto, using(crate::proofs::DescentLaws::inside, crate::proofs::DescentLaws::node_words, crate::proofs::DescentLaws::taken_le, crate::proofs::DescentLaws::passed_inner))]
 pub fn find_beside(card: &[u32], n: usize, key: u32, root: usize) -> Option<Beside>
     requires { (length card.now ≡ 8 + 24 * n) × (n ≤ greatest_nodes) }
     ensures { result ≡ beside_by card.now key 0 (way_from card.now n key depth_limit (root_position root)) }
@@ -203,9 +205,6 @@ pub fn find_beside(card: &[u32], n: usize, key: u32, root: usize) -> Option<Besi
         }
         let node = card::node_at(card, m);
         match go_down(node, key) {
-            Down::Nowhere => {
-                return None;
-            }
             Down::Leaf => {
                 return Some(Beside {
                     node: m,
@@ -213,7 +212,7 @@ pub fn find_beside(card: &[u32], n: usize, key: u32, root: usize) -> Option<Besi
                     depth,
                 });
             }
-            Down::Childless => {
+            Down::Nowhere | Down::Childless => {
                 return None;
             }
             Down::Inner { index, child } => {
@@ -289,6 +288,7 @@ pub enum End {
 
 // A key's way down from the root, to its end; faults are passed by where none is sought. A fault is told before what refuses the way.
 #[inline(never)]
+#[tactic(auto, using(crate::proofs::DescentLaws::inside, crate::proofs::DescentLaws::node_words, crate::proofs::DescentLaws::taken_le, crate::proofs::DescentLaws::passed_inner))]
 pub fn descend(card: &[u32], n: usize, key: u32, root: usize, seeks: bool) -> End
     requires { (length card.now ≡ 8 + 24 * n) × (n ≤ greatest_nodes) }
     ensures { result ≡ end_of card.now seeks (way_from card.now n key depth_limit (root_position root)) }
@@ -367,6 +367,7 @@ fn run_below(count: usize, run: usize) -> usize
 
 // How many 11-child nodes stand without a break straight above the leaf that a key leads to. It is asked only where a leaf may be
 // split, so that no other way counts children.
+#[tactic(auto, using(crate::proofs::DescentLaws::inside, crate::proofs::DescentLaws::node_words))]
 pub fn run_above(card: &[u32], n: usize, key: u32, root: usize) -> usize
     requires { (length card.now ≡ 8 + 24 * n) × (n ≤ greatest_nodes) }
     ensures { result ≡ run_over card.now 0 (way_from card.now n key depth_limit (root_position root)).inner }
@@ -379,10 +380,7 @@ pub fn run_above(card: &[u32], n: usize, key: u32, root: usize) -> usize
         }
         let node = card::node_at(card, m);
         match go_down(node, key) {
-            Down::Nowhere => {
-                return run;
-            }
-            Down::Leaf => {
+            Down::Nowhere | Down::Leaf => {
                 return run;
             }
             Down::Childless => {

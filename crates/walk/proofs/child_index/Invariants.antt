@@ -1,4 +1,4 @@
-use Rattle.std.proofs.Common.{◌≡◌, ◌≤◌, ◌<◌, ◌-◌, length}
+use Rattle.std.proofs.Common.{◌≡◌, ◌≤◌, ◌<◌, length}
 use Rattle.card.specs.Layout.{children}
 use Rattle.walk.specs.Descent.{child_index}
 use Rattle.walk.proofs.DescentLaws.{index_from}
