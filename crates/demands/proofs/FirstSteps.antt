@@ -44,7 +44,8 @@ use Rattle.state.specs.Steps.{Step, step_refused}
 use Rattle.state.specs.declared.Doing.{Doing}
 use Rattle.state.specs.declared.Doing.TheVariants.{Inserting, Deleting, Repairing}
 use Rattle.state.specs.declared.Phase.TheVariants.{NotBegun, InHand, Decided}
-use Rattle.state.specs.Answer.{Answer, given as told_given}
+use Rattle.state.specs.Answer.{Answer, given}
+use Rattle.state.specs.Answer.{Absent, Value}
 use Rattle.state.specs.declared.Answer.{Answer as GivenAnswer}
 use Rattle.state.specs.declared.Answer.TheVariants.{Ready as GivenReady, Absent as GivenAbsent, Value as GivenValue}
 use Rattle.state.specs.declared.Task.{Task}
@@ -229,40 +230,36 @@ module _ (greatest : ℕ) (c : List ℕ) (m : Memory) (key before : ℕ) (d : m.
   unfolding landed
   delete_at_lem s None e = inl (sym (leads_is c m.nodes key (sized_on greatest c m.nodes s)) ∙ ap landed e, rw (delete_no_way e) (refused_same greatest 9 c m))
   delete_at_lem s (Some l) e =
-      inr (
-        λ z. none_some (l.node, l.run) (sym z ∙ sym (leads_is c m.nodes key (sized_on greatest c m.nodes s)) ∙ ap landed e),
-        delete_slot s l.node l.link l.run e (slot_of (node_at c l.node) key) refl,
-      )
+      inr (λ z. none_some (l.node, l.run) (sym z ∙ sym (leads_is c m.nodes key (sized_on greatest c m.nodes s)) ∙ ap landed e), delete_slot s l.node l.link l.run e (slot_of (node_at c l.node) key) refl)
 
 -- ---- a repair
 
-module _ (greatest : ℕ) (c : List ℕ) (m : Memory) (key : ℕ) (a : Answer) (f : Final a) (w : work_of m.doing ≡ begun (work_of m.doing)) where
+module _ (greatest : ℕ) (c : List ℕ) (m : Memory) (key : ℕ) (a : GivenAnswer) (f : Final (given a)) (w : work_of m.doing ≡ begun (work_of m.doing)) where
   -- a change without new nodes, by its first store
-  over_one : (s : Store) (rest : List Store) → Nine greatest c m (length c ≤ s.0) (step_prepared c m m.doing a (prepared (s ∷ rest) m.free m.last []))
+  over_one : (s : Store) (rest : List Store) → Nine greatest c m (length c ≤ s.0) (step_prepared c m m.doing (given a) (prepared (s ∷ rest) m.free m.last []))
   over_one s rest =
       order s.0 (length c)
-      (λ o. inr (λ z. omega (arith, o, z), stores_first greatest c m m.doing a (s ∷ rest) m.free m.last [] w o))
-      (λ o. inl (o, refuses_first greatest c m m.doing a (s ∷ rest) m.free m.last [] o))
+      (λ o. inr (λ z. omega (arith, o, z), stores_first greatest c m m.doing (given a) (s ∷ rest) m.free m.last [] w o))
+      (λ o. inl (o, refuses_first greatest c m m.doing (given a) (s ∷ rest) m.free m.last [] o))
 
   -- by the change decided
-  repair_decided : (x : Decision) → Nine greatest c m (Unmakeable c m.free m.last x) (step_prepared c m m.doing a (lay_out c x m.free m.last))
+  repair_decided : (x : Decision) → Nine greatest c m (Unmakeable c m.free m.last x) (step_prepared c m m.doing (given a) (lay_out c x m.free m.last))
   unfolding Unmakeable lay_out change_stores split_leaf absorb split_parent share merge merge_root halves node_image
-  repair_decided Refused = inl (tt, refuses_none greatest c m m.doing a)
-  repair_decided Balanced = inr (λ z. z, answers greatest c m m.doing a f)
+  repair_decided Refused = inl (tt, refuses_none greatest c m m.doing (given a))
+  repair_decided Balanced = inr (λ z. z, answers greatest c m m.doing (given a) f)
   repair_decided (PutPair x i k v) = over_one (place x (12 + i), v) ((place x (1 + i), k) ∷ [])
   repair_decided (ClearKey x i) = over_one (place x (1 + i), 0) []
-  repair_decided (SplitLeaf x link k v) = over_given greatest c m m.doing a w 3 (split_leaf_of x link k v (node_at c x)) (λ ms. refl)
-  repair_decided (Absorb p) = over_given greatest c m m.doing a w 1 (absorb_at c p) (λ ms. refl)
-  repair_decided (SplitParent p) = over_given greatest c m m.doing a w 3 (split_parent_at c p) (λ ms. refl)
-  repair_decided (Share p) = over_given greatest c m m.doing a w 3 (share_at c p) (λ ms. refl)
-  repair_decided (Merge p) = over_given greatest c m m.doing a w 2 (merge_at c p) (λ ms. refl)
-  repair_decided (MergeRoot p) = over_given greatest c m m.doing a w 1 (merge_root_at c p) (λ ms. refl)
+  repair_decided (SplitLeaf x link k v) = over_given greatest c m m.doing (given a) w 3 (split_leaf_of x link k v (node_at c x)) (λ ms. refl)
+  repair_decided (Absorb p) = over_given greatest c m m.doing (given a) w 1 (absorb_at c p) (λ ms. refl)
+  repair_decided (SplitParent p) = over_given greatest c m m.doing (given a) w 3 (split_parent_at c p) (λ ms. refl)
+  repair_decided (Share p) = over_given greatest c m m.doing (given a) w 3 (share_at c p) (λ ms. refl)
+  repair_decided (Merge p) = over_given greatest c m m.doing (given a) w 2 (merge_at c p) (λ ms. refl)
+  repair_decided (MergeRoot p) = over_given greatest c m m.doing (given a) w 1 (merge_root_at c p) (λ ms. refl)
 
-repair_next : (greatest : ℕ) (c : List ℕ) (m : Memory) (key : ℕ) (a : GivenAnswer) → Final (told_given a) → work_of m.doing ≡ begun (work_of m.doing)
-    → Sized greatest (length c) m.nodes
-    → Nine greatest c m (Unmakeable c m.free m.last (decided_repair c (nodes_on c) key)) (step_begin c m (next_change c m.nodes m.free m.last m.doing (Repair key a)))
-unfolding step_begin next_change next_repair
-repair_next greatest c m key a f w s = rw (sized_on greatest c m.nodes s) (repair_decided greatest c m key (told_given a) f w (decided_repair c m.nodes key))
+  repair_next : Sized greatest (length c) m.nodes → Nine greatest c m (Unmakeable c m.free m.last (decided_repair c (nodes_on c) key))
+      (step_begin c m (next_change c m.nodes m.free m.last m.doing (Repair key a)))
+  unfolding step_begin next_change next_repair
+  repair_next s = rw (sized_on greatest c m.nodes s) (repair_decided (decided_repair c m.nodes key))
 
 -- ---- any of them
 
@@ -270,7 +267,7 @@ module _ (greatest : ℕ) (c : List ℕ) (m : Memory) (s : Sized greatest (lengt
   abbrev Begins : Doing → Task → Type 0
   Begins doing task = Nine greatest c m (NoChange c m.free m.last (work_of doing)) (step_begin c m (next_change c m.nodes m.free m.last doing task))
 
-  repairs : (key : ℕ) (a : GivenAnswer) → Final (told_given a) → (doing : Doing) → m.doing ≡ doing → work_of doing ≡ begun (work_of doing)
+  repairs : (key : ℕ) (a : GivenAnswer) → Final (given a) → (doing : Doing) → m.doing ≡ doing → work_of doing ≡ begun (work_of doing)
       → Nine greatest c m (Unmakeable c m.free m.last (decided_repair c (nodes_on c) key)) (step_begin c m (next_change c m.nodes m.free m.last doing (Repair key a)))
   repairs key a f doing e w =
       subst (λ (x : Doing). Nine greatest c m (Unmakeable c m.free m.last (decided_repair c (nodes_on c) key)) (step_begin c m (next_change c m.nodes m.free m.last x (Repair key a)))) e

@@ -28,7 +28,8 @@ use Rattle.state.specs.declared.Doing.TheVariants.{Idle, Inserting, Deleting}
 use Rattle.state.specs.declared.Phase.{Phase}
 use Rattle.state.specs.declared.Phase.TheVariants.{NotBegun, Decided}
 use Rattle.state.proofs.Tasks.{in_hand_lem, decided}
-use Rattle.state.specs.Answer.{Answer, Stored}
+use Rattle.state.specs.Answer.{Answer}
+use Rattle.state.specs.Answer.{Stored}
 use Rattle.state.specs.declared.Answer.TheVariants.{Ready as GivenReady, Absent as GivenAbsent, Value as GivenValue}
 use Rattle.state.specs.declared.Task.{Task}
 use Rattle.state.specs.declared.Task.TheVariants.{PutIn, TakeOut, Repair}

@@ -11,7 +11,7 @@ use Rattle.state.specs.declared.Doing.{Doing}
 use Rattle.state.specs.declared.Doing.TheVariants.{Idle, Formatting, Inserting, Deleting, Repairing}
 use Rattle.state.specs.declared.Phase.{Phase}
 use Rattle.state.specs.declared.Phase.TheVariants.{NotBegun, InHand, Decided}
-use Rattle.state.specs.declared.Answer.TheVariants.{Ready as GivenReady, Absent as GivenAbsent, Value as GivenValue}
+use Rattle.state.specs.declared.Answer.TheVariants.{Ready, Absent, Value}
 use Rattle.state.specs.declared.Task.{Task}
 use Rattle.state.specs.declared.Task.TheVariants.{PutIn, TakeOut, Repair}
 use Rattle.state.specs.declared.Held.TheVariants.{Nothing as NoneHeld, Task as HeldTask}
@@ -80,9 +80,9 @@ unfolding work_of held_by
 idle_or_task Idle q = inl (refl, refl)
 idle_or_task (Formatting made) q = absurd (q refl)
 idle_or_task (Inserting key value NotBegun) q = inr (PutIn key value, refl, λ e. impossible (cc))
-idle_or_task (Inserting key value InHand) q = inr (Repair key GivenAbsent, refl, λ e. impossible (cc))
-idle_or_task (Inserting key value Decided) q = inr (Repair key GivenAbsent, refl, λ e. impossible (cc))
+idle_or_task (Inserting key value InHand) q = inr (Repair key Absent, refl, λ e. impossible (cc))
+idle_or_task (Inserting key value Decided) q = inr (Repair key Absent, refl, λ e. impossible (cc))
 idle_or_task (Deleting key NotBegun value) q = inr (TakeOut key, refl, λ e. impossible (cc))
-idle_or_task (Deleting key InHand value) q = inr (Repair key (GivenValue value), refl, λ e. impossible (cc))
-idle_or_task (Deleting key Decided value) q = inr (Repair key (GivenValue value), refl, λ e. impossible (cc))
-idle_or_task (Repairing key) q = inr (Repair key GivenReady, refl, λ e. impossible (cc))
+idle_or_task (Deleting key InHand value) q = inr (Repair key (Value value), refl, λ e. impossible (cc))
+idle_or_task (Deleting key Decided value) q = inr (Repair key (Value value), refl, λ e. impossible (cc))
+idle_or_task (Repairing key) q = inr (Repair key Ready, refl, λ e. impossible (cc))
