@@ -31,11 +31,11 @@ module _ (b x : List ℕ) (long : length b ≡ state_words) (lx : length x ≡ 7
   abbrev with_places : List ℕ
   with_places = placed places_at 73 b x
 
-  pub places_length : length with_places ≡ state_words
+  places_length : length with_places ≡ state_words
   places_length = placed_length b x places_at 73 lx (omega arith) ∙ long
 
   -- what was there before in the part that is stored next
-  pub values_stood : part with_places values_at 73 ≡ part b values_at 73
+  values_stood : part with_places values_at 73 ≡ part b values_at 73
   values_stood =
       let rest : List ℕ = drop 73 (drop places_at b) in
       let front : length (take places_at b ++ x) ≡ values_at = omega (arith, length-append (take places_at b) x, length-take places_at b) in
@@ -46,23 +46,23 @@ module _ (b x : List ℕ) (long : length b ≡ state_words) (lx : length x ≡ 7
     abbrev with_values : List ℕ
     with_values = placed values_at 73 with_places y
 
-    pub values_length : length with_values ≡ state_words
+    values_length : length with_values ≡ state_words
     values_length = placed_length with_places y values_at 73 ly (omega (arith, places_length)) ∙ places_length
 
-    pub free_stood : part with_values free_at word_count ≡ part b free_at word_count
+    free_stood : part with_values free_at word_count ≡ part b free_at word_count
     free_stood =
         same_part with_values b free_at word_count (values_length ∙ sym long)
         (λ j h k. placed_before with_places y values_at 73 ly (omega (arith, places_length)) j (omega arith)
         ∙ placed_before b x places_at 73 lx (omega arith) j (omega arith))
 
     -- the head is still as it was
-    pub head_stood : (j : ℕ) → j < 11 → block_word with_values j ≡ block_word b j
+    head_stood : (j : ℕ) → j < 11 → block_word with_values j ≡ block_word b j
     head_stood j h =
         placed_before with_places y values_at 73 ly (omega (arith, places_length)) j (omega arith)
         ∙ placed_before b x places_at 73 lx (omega arith) j (omega arith)
 
     -- and with the free nodes
-    pub word_stood : (z : List ℕ) → length z ≡ word_count → (j : ℕ) → j < 11 → block_word (placed free_at word_count with_values z) j ≡ block_word b j
+    word_stood : (z : List ℕ) → length z ≡ word_count → (j : ℕ) → j < 11 → block_word (placed free_at word_count with_values z) j ≡ block_word b j
     word_stood z lz j h = placed_before with_values z free_at word_count lz (omega (arith, values_length)) j h ∙ head_stood j h
 
 -- ---- the stores of two rows

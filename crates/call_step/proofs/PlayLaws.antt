@@ -232,10 +232,7 @@ module _ (b : List ℕ) (long : length b ≡ state_words) where
       store_at (part b places_at 73) (part b values_at 73) (block_word b 7) k places_long values_long h.0 h.1
       ∙ ap₂ (λ (x y : ℕ). (x, y) ∷ drop (k + 1) (planned b)) p v
 
-  -- the number of stores made does not bear on the plan, nor on what it cuts out
-  pub made_planned : (k : ℕ) → planned (set b 6 k) ≡ planned b
-  made_planned k = by_head (λ (x : List ℕ). planned (set x 6 k) ≡ planned x) b (omega arith) (λ a b c d e f g i j k l rest. refl)
-
+  -- the number of stores made does not bear on what the plan cuts out
   made_freed : (k : ℕ) → freed_nodes (set b 6 k) ≡ freed_nodes b
   made_freed k = by_head (λ (x : List ℕ). freed_nodes (set x 6 k) ≡ freed_nodes x) b (omega arith) (λ a b c d e f g i j k l rest. refl)
 

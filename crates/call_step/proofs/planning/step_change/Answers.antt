@@ -78,9 +78,12 @@ returns-then-state-nodes c =
     (λ z. sym (ap left_given c.in-Some.is) ∙ c.give.ensures.1 (nodes_are _ _ c.requires.4 ∙ z)) c.if-state-nodes.true
 
 pub plan-requires : goal.plan-requires
-plan-requires c =
-    (c.requires.0, c.requires.2, c.requires.4,
-    some_given c.args.state.now c.args.decision _ _ _ (nodes_are _ _ c.requires.4) c.wide.ensures c.give.ensures.0 _ c.in-Some.is)
+plan-requires c = (
+  c.requires.0,
+  c.requires.2,
+  c.requires.4,
+  some_given c.args.state.now c.args.decision _ _ _ (nodes_are _ _ c.requires.4) c.wide.ensures c.give.ensures.0 _ c.in-Some.is,
+)
 
 pub store_word-requires : goal.store_word-requires
 store_word-requires c =
@@ -115,7 +118,7 @@ returns-then-store_word c =
     let store = c.store_word.ensures in
     let long = change_length_lem greatest_nodes card b c.requires.0 c.args.doing d c.requires.2 c.requires.3 n c.requires.1 _ _ _ given counted _ planned_is in
     let inside = subst (λ (k : ℕ). k < length card) (sym c.wide-2.ensures)
-      (change_on_card greatest_nodes card b c.requires.0 c.args.doing d c.requires.2 c.requires.3 n c.requires.1 _ _ _ given counted _ planned_is c.if-state-nodes.false) in
+    (change_on_card greatest_nodes card b c.requires.0 c.args.doing d c.requires.2 c.requires.3 n c.requires.1 _ _ _ given counted _ planned_is c.if-state-nodes.false) in
     λ line changes.
     change_made greatest_nodes card b c.requires.0 c.args.doing d c.requires.2 c.requires.3 n c.requires.1 _ _ _ given
     counted _ planned_is line changes c.wide-2.result c.wide-2.ensures inside store.card_after
@@ -136,7 +139,7 @@ returns c =
     let store = c.store_word.ensures in
     let long = change_length_lem greatest_nodes card b c.requires.0 c.args.doing d c.requires.2 c.requires.3 n c.requires.1 _ _ _ given counted _ planned_is in
     let inside = subst (λ (k : ℕ). k < length card) (sym c.wide-2.ensures)
-      (change_on_card greatest_nodes card b c.requires.0 c.args.doing d c.requires.2 c.requires.3 n c.requires.1 _ _ _ given counted _ planned_is c.if-state-nodes.false) in
+    (change_on_card greatest_nodes card b c.requires.0 c.args.doing d c.requires.2 c.requires.3 n c.requires.1 _ _ _ given counted _ planned_is c.if-state-nodes.false) in
     λ line changes.
     change_made greatest_nodes card b c.requires.0 c.args.doing d c.requires.2 c.requires.3 n c.requires.1 _ _ _ given
     counted _ planned_is line changes c.wide-2.result c.wide-2.ensures inside store.card_after
