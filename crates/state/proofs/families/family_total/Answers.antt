@@ -1,6 +1,6 @@
-use Rattle.std.proofs.Common.{◌<◌, ap, sym, refl, ◌∙◌, arith, drop}
+use Rattle.std.proofs.Common.{◌<◌, ap, sym, ◌∙◌, drop}
 use lib.Seq.{get_or-take, get_or-drop}
-use borrow.Author.Tests.{lt-ltb, le-ltb}
+use borrow.Author.Tests.{lt-ltb}
 use Rattle.card_family.specs.Families.{family_count}
 use Rattle.state.specs.Block.{totals_at, memory_in}
 use Rattle.state.specs.Answers.{total_of}
