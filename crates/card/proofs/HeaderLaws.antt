@@ -96,53 +96,11 @@ formatted_header card n f =
       eq-eqb (get_or card 7 0) 0 f.seven,
     )
 
--- the first word that is not as it must be decides the refusal
+-- a wrong mark is refused first
 module _ (card : List ℕ) (n : ℕ) where
   pub wrong_word0 : (get_or card 0 0 ≡ 1 → ⊥) → header_refusal card n ≡ 2
   unfolding header_refusal
   wrong_word0 wrong = simp (ne_eqb (get_or card 0 0) 1 wrong)
-
-  pub wrong_word1 : get_or card 0 0 ≡ 1 → (get_or card 1 0 ≡ n → ⊥) → header_refusal card n ≡ 3
-  unfolding header_refusal
-  wrong_word1 h0 wrong = simp (eq-eqb (get_or card 0 0) 1 h0, ne_eqb (get_or card 1 0) n wrong)
-
-  pub wrong_word2 : get_or card 0 0 ≡ 1 → get_or card 1 0 ≡ n → (get_or card 2 0 ≡ 8 → ⊥) → header_refusal card n ≡ 3
-  unfolding header_refusal
-  wrong_word2 h0 h1 wrong = simp (eq-eqb (get_or card 0 0) 1 h0, eq-eqb (get_or card 1 0) n h1, ne_eqb (get_or card 2 0) 8 wrong)
-
-  pub wrong_word3 : get_or card 0 0 ≡ 1 → get_or card 1 0 ≡ n → get_or card 2 0 ≡ 8 → (get_or card 3 0 ≡ 24 → ⊥) → header_refusal card n ≡ 3
-  unfolding header_refusal
-  wrong_word3 h0 h1 h2 wrong = simp (eq-eqb (get_or card 0 0) 1 h0, eq-eqb (get_or card 1 0) n h1, eq-eqb (get_or card 2 0) 8 h2, ne_eqb (get_or card 3 0) 24 wrong)
-
-  pub wrong_word5 : get_or card 0 0 ≡ 1 → get_or card 1 0 ≡ n → get_or card 2 0 ≡ 8 → get_or card 3 0 ≡ 24 → (get_or card 5 0 ≡ 0 → ⊥) → header_refusal card n ≡ 3
-  unfolding header_refusal
-  wrong_word5 h0 h1 h2 h3 wrong = simp (eq-eqb (get_or card 0 0) 1 h0, eq-eqb (get_or card 1 0) n h1, eq-eqb (get_or card 2 0) 8 h2, eq-eqb (get_or card 3 0) 24 h3, ne_eqb (get_or card 5 0) 0 wrong)
-
-  pub wrong_word6 : get_or card 0 0 ≡ 1 → get_or card 1 0 ≡ n → get_or card 2 0 ≡ 8 → get_or card 3 0 ≡ 24 → get_or card 5 0 ≡ 0 → (get_or card 6 0 ≡ 0 → ⊥) → header_refusal card n ≡ 3
-  unfolding header_refusal
-  wrong_word6 h0 h1 h2 h3 h5 wrong =
-      simp (
-        eq-eqb (get_or card 0 0) 1 h0,
-        eq-eqb (get_or card 1 0) n h1,
-        eq-eqb (get_or card 2 0) 8 h2,
-        eq-eqb (get_or card 3 0) 24 h3,
-        eq-eqb (get_or card 5 0) 0 h5,
-        ne_eqb (get_or card 6 0) 0 wrong,
-      )
-
-  pub wrong_word7 : get_or card 0 0 ≡ 1 → get_or card 1 0 ≡ n → get_or card 2 0 ≡ 8
-      → get_or card 3 0 ≡ 24 → get_or card 5 0 ≡ 0 → get_or card 6 0 ≡ 0 → (get_or card 7 0 ≡ 0 → ⊥) → header_refusal card n ≡ 3
-  unfolding header_refusal
-  wrong_word7 h0 h1 h2 h3 h5 h6 wrong =
-      simp (
-        eq-eqb (get_or card 0 0) 1 h0,
-        eq-eqb (get_or card 1 0) n h1,
-        eq-eqb (get_or card 2 0) 8 h2,
-        eq-eqb (get_or card 3 0) 24 h3,
-        eq-eqb (get_or card 5 0) 0 h5,
-        eq-eqb (get_or card 6 0) 0 h6,
-        ne_eqb (get_or card 7 0) 0 wrong,
-      )
 
 -- refusals 1, 2 and 3
 module _ (greatest : ℕ) (card : List ℕ) (n : ℕ) (e : n ≡ nodes_of_length greatest (length card)) where

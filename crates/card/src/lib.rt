@@ -102,6 +102,7 @@ pub fn limit(greatest: usize) -> usize
 }
 
 // How many nodes a card of so many words has, where there is a card of that length.
+#[tactic(auto, unfolding(crate::specs::Header::nodes_of_length))]
 pub fn nodes_of(length: usize, greatest: usize) -> Option<usize>
     ensures value { unwrap_or result 0 ≡ nodes_of_length greatest length }
     ensures sized { (n : ℕ) → result ≡ Some n → Sized greatest length n }
@@ -127,6 +128,7 @@ pub fn is_sized(length: usize, n: usize, greatest: usize) -> bool
 }
 
 // Words 0 to 3 and 5 to 7 of a card with n nodes are as they must be, or refused with 2 or 3.
+#[tactic(auto, unfolding(crate::specs::Header::header_refusal))]
 pub fn check_header(card: &[u32], n: usize) -> Result<(), Refusal>
     requires { 8 ≤ length card.now }
     ensures { number_of result ≡ header_refusal card.now n }

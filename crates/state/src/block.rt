@@ -177,6 +177,7 @@ pub fn depth_kept(state: &[u32]) -> u32
 }
 
 // Words 0 to 10: the state but its free nodes and rows, whatever the words are.
+#[tactic(auto, using(crate::proofs::Blocks::head_read))]
 pub fn head_in(block: &[u32]) -> State
     requires { length block.now ≡ state_words }
     ensures { result ≡ head_in block.now }

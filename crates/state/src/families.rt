@@ -7,6 +7,7 @@ use card::Refusal;
 use card_family::FAMILIES;
 
 // "One question answers a family's total"; "13: family above 15; that question checks nothing else." A block that is no state has none.
+#[tactic(auto, unfolding(crate::specs::Answers::total_of, crate::specs::Block::memory_in))]
 pub fn family_total(state: &[u32], family: u32) -> Result<u32, Refusal>
     ensures { TotalCall state.now family (told result) }
 {

@@ -1,22 +1,11 @@
-use Rattle.std.proofs.Common.{◌<◌, ap, sym, refl, ◌∙◌, arith, drop}
+use Rattle.std.proofs.Common.{◌<◌, ap, sym, ◌∙◌, drop}
 use lib.Seq.{get_or-take, get_or-drop}
-use borrow.Author.Tests.{lt-ltb, le-ltb}
+use borrow.Author.Tests.{lt-ltb}
 use Rattle.card_family.specs.Families.{family_count}
 use Rattle.state.specs.Block.{totals_at, memory_in}
 use Rattle.state.specs.Answers.{total_of}
 use Rattle.state.specs.Total.{Pairs}
 use Rattle.state.proofs.families.family_total.Goals as goal
-
-pub returns-then-state-ne-STATE_WORDS : goal.returns-then-state-ne-STATE_WORDS
-returns-then-state-ne-STATE_WORDS c = record { told = λ l. absurd (c.if-state-ne-STATE_WORDS.true l); no_state_lem = λ n. refl }
-
-pub returns-then-family-ge-FAMILIES : goal.returns-then-family-ge-FAMILIES
-unfolding total_of
-returns-then-family-ge-FAMILIES c =
-    record {
-      told = λ l. rw (le-ltb c.args.family family_count (omega (arith, c.if-family-ge-FAMILIES.true)));
-      no_state_lem = λ n. absurd (n c.if-state-ne-STATE_WORDS.false);
-    }
 
 pub returns : goal.returns
 unfolding total_of memory_in
