@@ -35,8 +35,8 @@ use Rattle.card_dump.proofs.AnswerLaws.{undamaged_whole, read_damaged, read_whol
 use Rattle.card_dump.specs.Dump.{dump_words, read_answer, words_for, dump_nodes, damaged}
 use Rattle.card_dump.specs.Answer.{Length}
 use Rattle.card_free.specs.NodeSet.{count_true}
-use Rattle.reason.specs.declared.Reason.{Reason}
-use Rattle.reason.specs.declared.Reason.TheVariants.{Refused, NoKey, Held, Slot as EmptySlot, Split}
+use Rattle.reason.specs.Reason.{Reason}
+use Rattle.reason.specs.Reason.{Refused, NoKey, Held, Slot as EmptySlot, Split}
 use Rattle.demands.proofs.ReasonText.{unread_text, unopened_text, no_key_text, text_holds, text_refused}
 use Rattle.demands.proofs.Reasons.{ReasonHolds}
 use Rattle.reason_key.proofs.KeyFileLaws.{key_below}

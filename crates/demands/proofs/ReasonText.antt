@@ -10,8 +10,8 @@ use Rattle.card_dump.specs.Dump.{dump_words, read_answer}
 use Rattle.card_dump.specs.Answer.{Length, Refused as ReadRefused}
 use Rattle.reason.specs.InsertReason.{reason_of}
 use Rattle.reason.proofs.InsertReasonLaws.{of_refused, dump_refused, dump_read}
-use Rattle.reason.specs.declared.Reason.{Reason}
-use Rattle.reason.specs.declared.Reason.TheVariants.{Split}
+use Rattle.reason.specs.Reason.{Reason}
+use Rattle.reason.specs.Reason.{Split}
 use Rattle.demands.proofs.Reasons.{ReasonHolds, no_key, reason_holds, refused_exactly}
 use Rattle.demands.proofs.ReasonTold.{split_told}
 use Rattle.reason_key.specs.KeyFile.{key_in}

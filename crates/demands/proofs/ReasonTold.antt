@@ -5,8 +5,8 @@ use Prim.Native.Nat.{ℕ}
 use native.Mathlib.Omega.{arith}
 use Rattle.text_row.specs.Lines.{decimal, line_feed, free_word, refused_word, number_line, refusal_line}
 use Rattle.text_row.proofs.Telling.{number_told}
-use Rattle.reason.specs.declared.Reason.{Reason}
-use Rattle.reason.specs.declared.Reason.TheVariants.{Refused, NoKey, Held, Slot, Split}
+use Rattle.reason.specs.Reason.{Reason}
+use Rattle.reason.specs.Reason.{Refused, NoKey, Held, Slot, Split}
 use Rattle.reason_text.specs.ReasonText.{no_key_word, held_word, slot_word, split_word, need_word, split_line, reason_text}
 
 -- the line byte by byte, from "need " on, from "free " on, and whole

@@ -19,8 +19,8 @@ use Rattle.theory_walk.proofs.Landing.{LandedAt, landing_found}
 use Rattle.card_free.specs.NodeSet.{count_true}
 use Rattle.reason.specs.InsertReason.{reason_for, reason_landed, reason_of}
 use Rattle.reason.proofs.InsertReasonLaws.{of_opened, on_no_key, on_key}
-use Rattle.reason.specs.declared.Reason.{Reason}
-use Rattle.reason.specs.declared.Reason.TheVariants.{Refused, NoKey, Held, Slot as EmptySlot, Split}
+use Rattle.reason.specs.Reason.{Reason}
+use Rattle.reason.specs.Reason.{Refused, NoKey, Held, Slot as EmptySlot, Split}
 use Rattle.demands.specs.Book.{book, kept, empty}
 use Rattle.demands.specs.Events.{World, run, opened, Opens, from_open}
 use Rattle.demands.specs.RationTable.{ration_table}
