@@ -44,8 +44,10 @@ use Rattle.state.specs.Steps.{Step, step_refused}
 use Rattle.state.specs.declared.Doing.{Doing}
 use Rattle.state.specs.declared.Doing.TheVariants.{Inserting, Deleting, Repairing}
 use Rattle.state.specs.declared.Phase.TheVariants.{NotBegun, InHand, Decided}
-use Rattle.state.specs.Answer.{Answer}
-use Rattle.state.specs.Answer.{Ready, Absent, Value}
+use Rattle.state.specs.Answer.{Answer, given}
+use Rattle.state.specs.Answer.{Absent, Value}
+use Rattle.state.specs.declared.Answer.{Answer as GivenAnswer}
+use Rattle.state.specs.declared.Answer.TheVariants.{Ready as GivenReady, Absent as GivenAbsent, Value as GivenValue}
 use Rattle.state.specs.declared.Task.{Task}
 use Rattle.state.specs.declared.Task.TheVariants.{PutIn, TakeOut, Repair}
 use Rattle.state.proofs.Tasks.{in_hand_lem, decided, TaskOf, putting, taking, put, taken, opened, task_of}
@@ -232,27 +234,27 @@ module _ (greatest : ℕ) (c : List ℕ) (m : Memory) (key before : ℕ) (d : m.
 
 -- ---- a repair
 
-module _ (greatest : ℕ) (c : List ℕ) (m : Memory) (key : ℕ) (a : Answer) (f : Final a) (w : work_of m.doing ≡ begun (work_of m.doing)) where
+module _ (greatest : ℕ) (c : List ℕ) (m : Memory) (key : ℕ) (a : GivenAnswer) (f : Final (given a)) (w : work_of m.doing ≡ begun (work_of m.doing)) where
   -- a change without new nodes, by its first store
-  over_one : (s : Store) (rest : List Store) → Nine greatest c m (length c ≤ s.0) (step_prepared c m m.doing a (prepared (s ∷ rest) m.free m.last []))
+  over_one : (s : Store) (rest : List Store) → Nine greatest c m (length c ≤ s.0) (step_prepared c m m.doing (given a) (prepared (s ∷ rest) m.free m.last []))
   over_one s rest =
       order s.0 (length c)
-      (λ o. inr (λ z. omega (arith, o, z), stores_first greatest c m m.doing a (s ∷ rest) m.free m.last [] w o))
-      (λ o. inl (o, refuses_first greatest c m m.doing a (s ∷ rest) m.free m.last [] o))
+      (λ o. inr (λ z. omega (arith, o, z), stores_first greatest c m m.doing (given a) (s ∷ rest) m.free m.last [] w o))
+      (λ o. inl (o, refuses_first greatest c m m.doing (given a) (s ∷ rest) m.free m.last [] o))
 
   -- by the change decided
-  repair_decided : (x : Decision) → Nine greatest c m (Unmakeable c m.free m.last x) (step_prepared c m m.doing a (lay_out c x m.free m.last))
+  repair_decided : (x : Decision) → Nine greatest c m (Unmakeable c m.free m.last x) (step_prepared c m m.doing (given a) (lay_out c x m.free m.last))
   unfolding Unmakeable lay_out change_stores split_leaf absorb split_parent share merge merge_root halves node_image
-  repair_decided Refused = inl (tt, refuses_none greatest c m m.doing a)
-  repair_decided Balanced = inr (λ z. z, answers greatest c m m.doing a f)
+  repair_decided Refused = inl (tt, refuses_none greatest c m m.doing (given a))
+  repair_decided Balanced = inr (λ z. z, answers greatest c m m.doing (given a) f)
   repair_decided (PutPair x i k v) = over_one (place x (12 + i), v) ((place x (1 + i), k) ∷ [])
   repair_decided (ClearKey x i) = over_one (place x (1 + i), 0) []
-  repair_decided (SplitLeaf x link k v) = over_given greatest c m m.doing a w 3 (split_leaf_of x link k v (node_at c x)) (λ ms. refl)
-  repair_decided (Absorb p) = over_given greatest c m m.doing a w 1 (absorb_at c p) (λ ms. refl)
-  repair_decided (SplitParent p) = over_given greatest c m m.doing a w 3 (split_parent_at c p) (λ ms. refl)
-  repair_decided (Share p) = over_given greatest c m m.doing a w 3 (share_at c p) (λ ms. refl)
-  repair_decided (Merge p) = over_given greatest c m m.doing a w 2 (merge_at c p) (λ ms. refl)
-  repair_decided (MergeRoot p) = over_given greatest c m m.doing a w 1 (merge_root_at c p) (λ ms. refl)
+  repair_decided (SplitLeaf x link k v) = over_given greatest c m m.doing (given a) w 3 (split_leaf_of x link k v (node_at c x)) (λ ms. refl)
+  repair_decided (Absorb p) = over_given greatest c m m.doing (given a) w 1 (absorb_at c p) (λ ms. refl)
+  repair_decided (SplitParent p) = over_given greatest c m m.doing (given a) w 3 (split_parent_at c p) (λ ms. refl)
+  repair_decided (Share p) = over_given greatest c m m.doing (given a) w 3 (share_at c p) (λ ms. refl)
+  repair_decided (Merge p) = over_given greatest c m m.doing (given a) w 2 (merge_at c p) (λ ms. refl)
+  repair_decided (MergeRoot p) = over_given greatest c m m.doing (given a) w 1 (merge_root_at c p) (λ ms. refl)
 
   repair_next : Sized greatest (length c) m.nodes → Nine greatest c m (Unmakeable c m.free m.last (decided_repair c (nodes_on c) key))
       (step_begin c m (next_change c m.nodes m.free m.last m.doing (Repair key a)))
@@ -265,7 +267,7 @@ module _ (greatest : ℕ) (c : List ℕ) (m : Memory) (s : Sized greatest (lengt
   abbrev Begins : Doing → Task → Type 0
   Begins doing task = Nine greatest c m (NoChange c m.free m.last (work_of doing)) (step_begin c m (next_change c m.nodes m.free m.last doing task))
 
-  repairs : (key : ℕ) (a : Answer) → Final a → (doing : Doing) → m.doing ≡ doing → work_of doing ≡ begun (work_of doing)
+  repairs : (key : ℕ) (a : GivenAnswer) → Final (given a) → (doing : Doing) → m.doing ≡ doing → work_of doing ≡ begun (work_of doing)
       → Nine greatest c m (Unmakeable c m.free m.last (decided_repair c (nodes_on c) key)) (step_begin c m (next_change c m.nodes m.free m.last doing (Repair key a)))
   repairs key a f doing e w =
       subst (λ (x : Doing). Nine greatest c m (Unmakeable c m.free m.last (decided_repair c (nodes_on c) key)) (step_begin c m (next_change c m.nodes m.free m.last x (Repair key a)))) e
@@ -275,11 +277,11 @@ module _ (greatest : ℕ) (c : List ℕ) (m : Memory) (s : Sized greatest (lengt
   unfolding NoChange work_of has_begun begun
   begins (putting {key} {value}) e = insert_at_lem greatest c m key value e s (landing c m.nodes key) refl
   begins (taking {key} {value}) e = delete_at_lem greatest c m key value e s (landing c m.nodes key) refl
-  begins (put {key} {value} in_hand_lem) e = repairs key Absent (inr (inr refl)) (Inserting key value InHand) e refl
-  begins (put {key} {value} decided) e = repairs key Absent (inr (inr refl)) (Inserting key value Decided) e refl
-  begins (taken {key} {value} in_hand_lem) e = repairs key (Value value) (inr (inl (value, refl))) (Deleting key InHand value) e refl
-  begins (taken {key} {value} decided) e = repairs key (Value value) (inr (inl (value, refl))) (Deleting key Decided value) e refl
-  begins (opened {key}) e = repairs key Ready (inl refl) (Repairing key) e refl
+  begins (put {key} {value} in_hand_lem) e = repairs key GivenAbsent (inr (inr refl)) (Inserting key value InHand) e refl
+  begins (put {key} {value} decided) e = repairs key GivenAbsent (inr (inr refl)) (Inserting key value Decided) e refl
+  begins (taken {key} {value} in_hand_lem) e = repairs key (GivenValue value) (inr (inl (value, refl))) (Deleting key InHand value) e refl
+  begins (taken {key} {value} decided) e = repairs key (GivenValue value) (inr (inl (value, refl))) (Deleting key Decided value) e refl
+  begins (opened {key}) e = repairs key GivenReady (inl refl) (Repairing key) e refl
 
 change_rows : (greatest : ℕ) (c : List ℕ) (m : Memory) → m.rest ≡ [] → (work_of m.doing ≡ formatting → ⊥)
     → ByRows (step_rows greatest (ration_table greatest) c m (NoChange c m.free m.last (work_of m.doing)))

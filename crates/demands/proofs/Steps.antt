@@ -29,7 +29,8 @@ use Rattle.state.specs.declared.Phase.{Phase}
 use Rattle.state.specs.declared.Phase.TheVariants.{NotBegun, Decided}
 use Rattle.state.proofs.Tasks.{in_hand_lem, decided}
 use Rattle.state.specs.Answer.{Answer}
-use Rattle.state.specs.Answer.{Stored, Ready, Absent, Value}
+use Rattle.state.specs.Answer.{Stored}
+use Rattle.state.specs.declared.Answer.TheVariants.{Ready as GivenReady, Absent as GivenAbsent, Value as GivenValue}
 use Rattle.state.specs.declared.Task.{Task}
 use Rattle.state.specs.declared.Task.TheVariants.{PutIn, TakeOut, Repair}
 use Rattle.state.specs.declared.Held.TheVariants.{Task as HeldTask}
@@ -48,11 +49,11 @@ pub record Busy (doing : Doing) : Type 0 where
 
 pub job_busy : {phase : Phase} {doing : Doing} {key : ℕ} {final : Answer} {u : Option Update} → Job phase doing key final u → Busy doing
 unfolding held_by is_idle
-job_busy (job_repair {key = key}) = record { task = Repair key Ready; held = refl; not_idle = refl }
-job_busy (job_insert {key = key} in_hand_lem) = record { task = Repair key Absent; held = refl; not_idle = refl }
-job_busy (job_insert {key = key} decided) = record { task = Repair key Absent; held = refl; not_idle = refl }
-job_busy (job_delete {key = key} {value = value} in_hand_lem) = record { task = Repair key (Value value); held = refl; not_idle = refl }
-job_busy (job_delete {key = key} {value = value} decided) = record { task = Repair key (Value value); held = refl; not_idle = refl }
+job_busy (job_repair {key = key}) = record { task = Repair key GivenReady; held = refl; not_idle = refl }
+job_busy (job_insert {key = key} in_hand_lem) = record { task = Repair key GivenAbsent; held = refl; not_idle = refl }
+job_busy (job_insert {key = key} decided) = record { task = Repair key GivenAbsent; held = refl; not_idle = refl }
+job_busy (job_delete {key = key} {value = value} in_hand_lem) = record { task = Repair key (GivenValue value); held = refl; not_idle = refl }
+job_busy (job_delete {key = key} {value = value} decided) = record { task = Repair key (GivenValue value); held = refl; not_idle = refl }
 
 -- the last store of a change decides it
 pub job_settled : {phase : Phase} {doing : Doing} {key : ℕ} {final : Answer} {u : Option Update} → Job phase doing key final u → Job Decided (settled doing) key final u

@@ -11,7 +11,7 @@ use Rattle.state.specs.declared.Doing.{Doing}
 use Rattle.state.specs.declared.Doing.TheVariants.{Idle, Formatting, Inserting, Deleting, Repairing}
 use Rattle.state.specs.declared.Phase.{Phase}
 use Rattle.state.specs.declared.Phase.TheVariants.{NotBegun, InHand, Decided}
-use Rattle.state.specs.Answer.{Ready, Absent, Value}
+use Rattle.state.specs.declared.Answer.TheVariants.{Ready, Absent, Value}
 use Rattle.state.specs.declared.Task.{Task}
 use Rattle.state.specs.declared.Task.TheVariants.{PutIn, TakeOut, Repair}
 use Rattle.state.specs.declared.Held.TheVariants.{Nothing as NoneHeld, Task as HeldTask}
