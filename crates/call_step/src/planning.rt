@@ -120,9 +120,7 @@ fn step_task(
     }
 }
 
-// A step that has no store left to make, nor formats: "10: state idle", or the next change of the task. A function
-// of its own in the machine too, so that a store of a plan in hand does not save its registers.
-#[inline(never)]
+// A step that has no store left to make, nor formats: "10: state idle", or the next change of the task.
 #[tactic(auto, using(crate::proofs::StepLaws::head_doing, crate::proofs::StepLaws::head_task, crate::proofs::StepLaws::head_rest, crate::proofs::StepLaws::plans_nothing))]
 pub fn step_plan(card: &mut [u32], state: &mut [u32], line: u32) -> Result<Answer, Refusal>
     requires { (length state.old ≡ state_words) × Sized greatest_nodes (length card.old) (block_word state.old 0)

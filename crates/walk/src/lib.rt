@@ -287,7 +287,6 @@ pub enum End {
 }
 
 // A key's way down from the root, to its end; faults are passed by where none is sought. A fault is told before what refuses the way.
-#[inline(never)]
 #[tactic(auto, using(crate::proofs::DescentLaws::inside, crate::proofs::DescentLaws::node_words, crate::proofs::DescentLaws::taken_le, crate::proofs::DescentLaws::passed_inner))]
 pub fn descend(card: &[u32], n: usize, key: u32, root: usize, seeks: bool) -> End
     requires { (length card.now ≡ 8 + 24 * n) × (n ≤ greatest_nodes) }
