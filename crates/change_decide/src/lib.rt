@@ -171,6 +171,7 @@ fn decide_at(card: &[u32], n: usize, p: Position) -> Decision
 }
 
 // "Repairs go on until balanced": the change that mends the first violation on a key's way in a line's table.
+#[tactic(auto, using(crate::proofs::LineDecisions::repair_seen), unfolding(crate::specs::Decide::on_search))]
 pub fn next_repair(card: &[u32], n: usize, line: u32, key: u32) -> Decision
     requires { (length card.now ≡ 8 + 24 * n) × (n ≤ greatest_nodes) × IsLine line }
     ensures { result ≡ decided_repair (seen line card.now) n key }
