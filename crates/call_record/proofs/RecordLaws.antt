@@ -54,4 +54,3 @@ unfolding record_at
 record_part block at from end f e =
     let n : end - from ≡ get_or block at 0 = omega arith in
     rw (n, f) refl
-

@@ -67,12 +67,7 @@ pub fn open(card: &[u32], state: &mut [u32]) -> Result<Begun, Refusal>
     call_open::open(card, state, GREATEST_NODES)
 }
 
-pub fn start_insert(
-    card: &[u32],
-    state: &mut [u32],
-    key: u32,
-    value: u32,
-) -> Result<Begun, Refusal>
+pub fn start_insert(card: &[u32], state: &mut [u32], key: u32, value: u32) -> Result<Begun, Refusal>
     ensures { StartCall state.old state.new (begun_told result) (Inserting key value NotBegun)
         (insert_of greatest_nodes 1 card.now (memory_in state.old) key value) }
 {

@@ -287,6 +287,8 @@ pub enum End {
 }
 
 // A key's way down from the root, to its end; faults are passed by where none is sought. A fault is told before what refuses the way.
+// Compiled into its callers, since as a call it took 50 instructions more of each step that plans.
+#[inline(always)]
 #[tactic(auto, using(crate::proofs::DescentLaws::inside, crate::proofs::DescentLaws::node_words, crate::proofs::DescentLaws::taken_le, crate::proofs::DescentLaws::passed_inner))]
 pub fn descend(card: &[u32], n: usize, key: u32, root: usize, seeks: bool) -> End
     requires { (length card.now ≡ 8 + 24 * n) × (n ≤ greatest_nodes) }
