@@ -8,6 +8,8 @@ ghost use Rattle.walk.specs.Descent.{child_index, slot_of, outside, look_in, dow
 ghost use Rattle.walk.specs.Descent.{landing_of, end_of, seek};
 
 // The slot of a key in a leaf: the first of the eleven whose key word is the key.
+// Called and not compiled in: its eleven tests are unrolled, 1,100 bytes over all callers, for seven instructions of a find.
+#[inline(never)]
 #[tactic(auto, using(crate::proofs::DescentLaws::slot_start, crate::proofs::DescentLaws::slot_here, crate::proofs::DescentLaws::slot_next, crate::proofs::DescentLaws::slot_end))]
 pub fn find_slot(node: &[u32], key: u32) -> Option<usize>
     requires { length node.now ≡ 24 }
