@@ -18,7 +18,7 @@ use Rattle.change_siblings.specs.Siblings.{together_at}
 use Rattle.walk.specs.Descent.{passed, child_index, child_for, first_equal, slot_of, outside, look_in, look_at, root_position, child_position, past, by_look, way_from, leaf_of, reached_at, depth_of}
 use Rattle.walk.specs.Descent.{way, run_over, landed_at, landing_of, count_of, is_fault, first_fault, ended, to_list, end_of}
 use Rattle.walk.specs.Descent.{search_of, seek}
-use Rattle.card_free.specs.NodeSet.{all_nodes, count_true, first_true, first_from, or_else, next_free}
+use Rattle.card_free.specs.NodeSet.{all_nodes, count_true, first_true, first_from, next_free}
 use Rattle.laws.specs.Sorting.{insert_pair, insert_all, sort, pair_keys}
 use Rattle.card_check.specs.Check.{member, leaf_sound, unused_zero, look_of, noted, enter_leaf, inner_sound, enter_inner, enter_kind, enter_node}
 use Rattle.card_check.specs.Check.{children_check, raised, on_look, node_check, table_check, range_end, slot_sound, tree_check}
@@ -119,7 +119,7 @@ unfolding fresh drive on_answer insert_whole delete_whole upto steps card_l card
     settled_totals settled_in settled_out several_in family_of table_counted node_counted children_counted keys_counted
     next_repair on_search seek search_of end_of first_fault ended to_list is_fault count_of root_position leaf_pairs insert_of start_of start_checked
     start_room room_for start_landed start_accepted step_refused start_refused with_all giving over_numbers take_numbers numbers_from next_free
-    first_from first_true or_else without_all last_of split_leaf change_stores sort insert_all insert_pair kind_above node_image count_true
+    first_from first_true without_all last_of split_leaf change_stores sort insert_all insert_pair kind_above node_image count_true
     child_position child_for child_index passed routing_keys run_below delete_of delete_change is_node share merge merge_root leaves_together
     inners_together half left_keys key_between absorb split_parent joined_keys joined_children find_of find_in has_line seen card_refusal found_at leaf_of reached_at depth_of
     found_in no_beginning no_memory open_of open_checked open_sound table_check tree_check node_check on_look enter_node enter_kind enter_leaf enter_inner
