@@ -2,7 +2,6 @@
 
 #![tactic(auto)]
 
-use std::io;
 use table::STATE_WORDS;
 use test_calls::{Block, make_steps};
 
@@ -28,38 +27,38 @@ fn power_on(card: &mut [u32], state: &mut Block) {
     make_steps(card, state, 731);
 }
 
-// What the card says of a ration.
-fn say(rt: &impl Print, card: &[u32], key: u32) -> io::Result<()> {
-    match table::find(card, key) {
+// What the card says of a ration. Where a line can't be written the program goes on.
+fn say(rt: &impl Print, card: &[u32], key: u32) {
+    let _ = match table::find(card, key) {
         Ok(Some(value)) => println!(rt; "  ration {key}: dose record {value}"),
         Ok(None) => println!(rt; "  ration {key}: absent"),
         Err(refusal) => println!(rt; "  ration {key}: refused {}", refusal.number()),
-    }
+    };
 }
 
-fn say_both(rt: &impl Print, card: &[u32]) -> io::Result<()> {
-    say(rt, card, 11)?;
-    say(rt, card, 12)
+fn say_both(rt: &impl Print, card: &[u32]) {
+    say(rt, card, 11);
+    say(rt, card, 12);
 }
 
-fn main(rt: HostRuntime) -> io::Result<()> {
+fn main(rt: HostRuntime) {
     let mut card = [0; LENGTH];
     let mut state: Block = [0; STATE_WORDS];
     let _ = table::start_format(&card, &mut state);
     make_steps(&mut card, &mut state, 154);
     fill(&mut card, &mut state);
-    println!(rt; "rations 1 to 11 are on the card")?;
-    say_both(&rt, &card)?;
+    let _ = println!(rt; "rations 1 to 11 are on the card");
+    say_both(&rt, &card);
     insert(&mut card, &mut state, 12, 120, 40);
-    println!(rt;
+    let _ = println!(rt;
         "ration 12 is being put in; power goes after 40 of its 73 stores; power comes back"
-    )?;
+    );
     power_on(&mut card, &mut state);
-    say_both(&rt, &card)?;
+    say_both(&rt, &card);
     insert(&mut card, &mut state, 12, 120, 73);
-    println!(rt;
+    let _ = println!(rt;
         "ration 12 is being put in; power goes after the last of its 73 stores; power comes back"
-    )?;
+    );
     power_on(&mut card, &mut state);
-    say_both(&rt, &card)
+    say_both(&rt, &card);
 }

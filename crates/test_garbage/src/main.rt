@@ -6,7 +6,6 @@
 use state::block::{
     COUNT, CUT, DOING, FIRST, FREE, IDLE, LAST, MADE, NODES, PLACES, SECOND, THIRD, VALUES,
 };
-use std::io;
 use table::STATE_WORDS;
 use test_calls::random::Random;
 use test_calls::{Block, Words, first_words};
@@ -179,7 +178,7 @@ impl Garbage {
     }
 }
 
-fn main(rt: HostRuntime) -> io::Result<()> {
+fn main(rt: HostRuntime) {
     let mut words = [0; test_calls::MOST];
     let mut garbage = Garbage {
         random: Random::new(1994),
@@ -188,5 +187,6 @@ fn main(rt: HostRuntime) -> io::Result<()> {
     for _ in 0..4000 {
         garbage.turn(&mut words);
     }
-    println!(rt; "calls {}", garbage.calls)
+    // where it can't be written the program ends all the same
+    let _ = println!(rt; "calls {}", garbage.calls);
 }

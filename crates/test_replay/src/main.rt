@@ -24,6 +24,14 @@ struct Replay {
     state: Block,
 }
 
+// How many internal nodes a find passes; 0 where it is refused, and where a card is asked for that is longer than the row.
+fn depth_of_find(card: &[u32], length: usize, key: u32) -> usize {
+    match table::find_with_depth(card, key) {
+        Ok(lookup) if length <= card.len() => lookup.depth,
+        Ok(_) | Err(_) => 0,
+    }
+}
+
 impl Replay {
     fn new() -> Self {
         Replay {
@@ -45,12 +53,14 @@ impl Replay {
         self.trace.feed_opening(begun, free);
     }
 
-    // A find, and its depth, which counts as 0 where a card is asked for that is longer than the row.
+    // A find, and its depth, of which another call tells.
     fn find(&mut self, card: &[u32], length: usize) {
         let key = self.stream.next_number();
-        match table::find_with_depth(card, key) {
-            Ok(lookup) if card.len() < length => self.trace.feed_found(lookup.found, 0),
-            Ok(lookup) => self.trace.feed_found(lookup.found, lookup.depth),
+        match table::find(card, key) {
+            Ok(found) => {
+                let depth = depth_of_find(card, length, key);
+                self.trace.feed_found(found, depth);
+            }
             Err(refusal) => self.trace.feed_refusal(refusal),
         }
     }
@@ -189,7 +199,7 @@ impl Replay {
     }
 }
 
-fn main(rt: HostRuntime) -> std::io::Result<()> {
+fn main(rt: HostRuntime) {
     let mut words = [0; test_calls::MOST];
     let mut replay = Replay::new();
     for _ in 0..1000000 {
@@ -199,8 +209,8 @@ fn main(rt: HostRuntime) -> std::io::Result<()> {
         }
         replay.turn(&mut words, kind);
         if kind == 6 {
-            println!(rt; "{} {}", replay.trace.number, replay.trace.hash)?;
+            // where it can't be written the traces after it are replayed all the same
+            let _ = println!(rt; "{} {}", replay.trace.number, replay.trace.hash);
         }
     }
-    Ok(())
 }

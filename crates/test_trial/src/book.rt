@@ -1,6 +1,9 @@
-// The book: the pairs that the table has to hold, and the update in hand with its count of steps.
-use std::alloc::{AllocError, Global};
-use std::collections::BTreeMap;
+// The book: the pairs that the table has to hold, and the update in hand with its count of steps. It is a row by the numbers of the
+// keys and no map, since a map takes the heap, which may be short.
+use crate::lists::MOST_KEYS;
+
+// A value, or none, for each number of a key; number 0 is no key's.
+type Values = [Option<u32>; MOST_KEYS + 1];
 
 // An insert has a value.
 #[derive(Clone, Copy)]
@@ -13,7 +16,8 @@ pub enum Kind {
 #[derive(Clone, Copy)]
 pub struct Hand {
     pub kind: Kind,
-    pub key: u32,
+    // its key, by the number in the list's range
+    pub number: u32,
     pub taken: u32,
     pub is_leaf_full: bool,
     pub is_entered: bool,
@@ -33,52 +37,49 @@ impl Hand {
 
 #[derive(Drop)]
 pub struct Book {
-    pairs: BTreeMap<u32, u32>,
+    values: Values,
     pub hand: Option<Hand>,
 }
 
 impl Book {
-    pub fn new(alloc: Global) -> Self {
+    pub fn new() -> Self {
         Book {
-            pairs: BTreeMap::new(alloc),
+            values: [None; MOST_KEYS + 1],
             hand: None,
         }
     }
 
     pub fn clear(&mut self) {
-        self.pairs.clear();
+        self.values.fill(None);
         self.hand = None;
     }
 
-    pub fn value(&self, key: u32) -> Option<u32> {
-        self.pairs.get(&key).copied()
+    // The value of a key, by its number.
+    pub fn value(&self, number: u32) -> Option<u32> {
+        self.values.get(number as usize).copied().flatten()
     }
 
     // "Entered, an insert adds its pair unless the key is there; a delete takes its key's pair out."
-    fn enter(&mut self, key: u32, kind: Kind) -> Result<(), AllocError> {
-        match kind {
-            Kind::Insert(value) => {
-                self.pairs.entry(key)?.or_insert(value);
-            }
-            Kind::Delete => {
-                self.pairs.remove(&key);
-            }
+    fn enter(&mut self, number: u32, kind: Kind) {
+        if let Some(held) = self.values.get_mut(number as usize) {
+            *held = match kind {
+                Kind::Insert(value) => held.or(Some(value)),
+                Kind::Delete => None,
+            };
         }
-        Ok(())
     }
 
     // "Its steps that are not refused count one each. The deciding step enters it .. Its final answer enters it if not yet entered,
     // and empties the hand."
-    pub fn step(&mut self, is_final: bool) -> Result<(), AllocError> {
+    pub fn step(&mut self, is_final: bool) {
         let Some(mut hand) = self.hand else {
-            return Ok(());
+            return;
         };
         hand.taken = hand.taken.saturating_add(1);
         if !hand.is_entered && (is_final || hand.taken == hand.deciding_step()) {
-            self.enter(hand.key, hand.kind)?;
+            self.enter(hand.number, hand.kind);
             hand.is_entered = true;
         }
         self.hand = if is_final { None } else { Some(hand) };
-        Ok(())
     }
 }

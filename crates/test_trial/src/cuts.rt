@@ -4,23 +4,24 @@ use table::{Answer, Begun};
 use test_calls::Block;
 
 impl Trial {
-    // A find of a key, compared with the book.
-    fn compare(&mut self, card: &[u32], key: u32) {
+    // A find of a key, by its number, compared with the book.
+    fn compare(&mut self, card: &[u32], number: u32) {
         count(&mut self.counts.calls);
-        let held = self.book.value(key);
+        let key = self.list.key(number);
+        let held = self.book.value(number);
         self.wrong_if(table::find(card, key) != Ok(held));
     }
 
     pub fn compare_one(&mut self, card: &[u32]) {
-        let key = self.any_key();
-        self.compare(card, key);
+        let number = self.any_number();
+        self.compare(card, number);
     }
 
     // Every key of the range, compared with the book.
     fn compare_all(&mut self, card: &[u32]) {
         let list = self.list;
-        for i in (1..=list.range).rev() {
-            self.compare(card, list.key(i));
+        for number in (1..=list.range).rev() {
+            self.compare(card, number);
         }
     }
 

@@ -1,7 +1,5 @@
 // The leaf that a key leads to on the card, by a reader of its own.
-use card::NODE_WORDS;
-
-type Node = [u32; NODE_WORDS];
+type Node = [u32; 24];
 
 // "node m begins at word 8 + 24 × (m − 1)"
 fn node(card: &[u32], m: u32) -> Option<&Node> {

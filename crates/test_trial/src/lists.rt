@@ -1,5 +1,8 @@
 // The lists of calls that are tried.
 
+// No list has keys from a longer range.
+pub const MOST_KEYS: usize = 3000;
+
 // A list of so many turns at N nodes, with keys from a range, each multiplied by a number, and one of so many steps tried with a cut.
 #[derive(Clone, Copy, Default)]
 pub struct List {

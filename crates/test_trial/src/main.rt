@@ -11,18 +11,17 @@ mod trial;
 mod update_lists;
 
 use lists::{LISTS, List};
-use std::alloc::AllocError;
-use std::io;
-use table::{Begun, Refusal, STATE_WORDS};
+use table::{Begun, STATE_WORDS};
 use test_calls::{Block, Words, copy_of, first_words};
 use trial::{Trial, count};
+use update_lists::is_refused;
 
 impl Trial {
     // A step of formatting; whether they go on. The card is not formatted until the last store, and opening says so.
     fn format_step(&mut self, card: &mut [u32], state: &mut Block) -> bool {
         let goes_on = self.step_until_ready(card, state);
         if matches!(card, [0, ..]) {
-            self.wrong_if(test_calls::opening_answer(card) != Err(Refusal::WrongMark));
+            self.wrong_if(!is_refused(test_calls::opening_answer(card), 2));
         }
         goes_on
     }
@@ -64,52 +63,50 @@ impl Trial {
     }
 
     // A call that is not refused: a start where there is no update in hand, else a step of it.
-    fn start_or_step(&mut self, card: &mut [u32], state: &mut Block) -> Result<(), AllocError> {
+    fn start_or_step(&mut self, card: &mut [u32], state: &mut Block) {
         match self.book.hand {
             None => self.start(card, state),
             Some(hand) => {
-                self.step(card, state, hand)?;
+                self.step(card, state, hand);
                 self.cut_at_times(card, state);
             }
         }
-        Ok(())
     }
 
     // One call of the list, or a cut.
-    fn turn(&mut self, card: &mut [u32], state: &mut Block) -> Result<(), AllocError> {
+    fn turn(&mut self, card: &mut [u32], state: &mut Block) {
         let which = self.random.below(64);
         match which {
             0..3 => self.refused_call(card, state, which),
             3..6 => self.short_card(card, state, which),
             6..9 => self.compare_one(card),
-            _ => return self.start_or_step(card, state),
+            _ => self.start_or_step(card, state),
         }
-        Ok(())
     }
 
     // A list of calls on a card that is formatted for it.
-    fn try_list(&mut self, card: &mut [u32], list: List) -> Result<(), AllocError> {
+    fn try_list(&mut self, card: &mut [u32], list: List) {
         self.list = list;
         self.book.clear();
         let mut state: Block = [0; STATE_WORDS];
         self.format(card, &mut state);
         for _ in 0..list.turns {
-            self.turn(card, &mut state)?;
+            self.turn(card, &mut state);
         }
         self.cut(card, &mut state);
-        Ok(())
     }
 }
 
-fn main(rt: HostRuntime) -> io::Result<()> {
+fn main(rt: HostRuntime) {
     let mut words: Words = [0; test_calls::MOST];
-    let mut trial = Trial::new(rt.alloc());
+    let mut trial = Trial::new();
     for list in LISTS {
-        trial.try_list(first_words(&mut words, list.length()), list)?;
+        trial.try_list(first_words(&mut words, list.length()), list);
     }
     let counts = &trial.counts;
-    println!(rt;
+    // where it can't be written the program ends all the same
+    let _ = println!(rt;
         "calls {} steps {} refused {} cuts {} wrong {}",
         counts.calls, counts.steps, counts.refused, counts.cuts, counts.wrong
-    )
+    );
 }

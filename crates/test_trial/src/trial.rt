@@ -1,7 +1,6 @@
 // What is kept from call to call, beside the card and its state.
 use crate::book::Book;
 use crate::lists::List;
-use std::alloc::Global;
 use test_calls::random::Random;
 
 #[derive(Default, Drop)]
@@ -27,10 +26,10 @@ pub struct Trial {
 }
 
 impl Trial {
-    pub fn new(alloc: Global) -> Self {
+    pub fn new() -> Self {
         Trial {
             list: List::default(),
-            book: Book::new(alloc),
+            book: Book::new(),
             random: Random::new(1994),
             counts: Counts::default(),
         }
@@ -42,9 +41,14 @@ impl Trial {
         }
     }
 
+    // The number of a key of the range.
+    pub fn any_number(&mut self) -> u32 {
+        self.random.below(self.list.range) + 1
+    }
+
     // A key of the range.
     pub fn any_key(&mut self) -> u32 {
-        let i = self.random.below(self.list.range) + 1;
-        self.list.key(i)
+        let number = self.any_number();
+        self.list.key(number)
     }
 }

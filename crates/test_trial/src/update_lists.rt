@@ -2,7 +2,6 @@
 use crate::book::{Hand, Kind};
 use crate::leaf;
 use crate::trial::{Trial, count};
-use std::alloc::AllocError;
 use table::{Answer, Begun, Refusal};
 use test_calls::Block;
 
@@ -17,6 +16,11 @@ fn is_wrong(hand: &Hand, answer: Result<Answer, Refusal>) -> bool {
     }
 }
 
+// Whether a call was refused with this number.
+pub fn is_refused<A: Drop>(answer: Result<A, Refusal>, number: u32) -> bool {
+    matches!(answer, Err(refusal) if refusal.number() == number)
+}
+
 impl Trial {
     // A call that has to be refused, and whether it was, as it is due.
     fn expect(&mut self, is_refused: bool) {
@@ -25,17 +29,17 @@ impl Trial {
         self.wrong_if(!is_refused);
     }
 
-    fn expect_of_find(&mut self, due: Refusal, card: &[u32], key: u32) {
-        self.expect(table::find(card, key) == Err(due));
+    fn expect_of_find(&mut self, due: u32, card: &[u32], key: u32) {
+        self.expect(is_refused(table::find(card, key), due));
     }
 
-    fn expect_of_starts(&mut self, due: Refusal, card: &[u32], state: &mut Block, key: u32) {
-        self.expect(table::start_delete(card, state, key) == Err(due));
-        self.expect(table::start_insert(card, state, key, 1) == Err(due));
+    fn expect_of_starts(&mut self, due: u32, card: &[u32], state: &mut Block, key: u32) {
+        self.expect(is_refused(table::start_delete(card, state, key), due));
+        self.expect(is_refused(table::start_insert(card, state, key, 1), due));
     }
 
-    fn expect_of_step(&mut self, due: Refusal, card: &mut [u32], state: &mut Block) {
-        self.expect(table::step(card, state) == Err(due));
+    fn expect_of_step(&mut self, due: u32, card: &mut [u32], state: &mut Block) {
+        self.expect(is_refused(table::step(card, state), due));
     }
 
     // Key 0 is refused 6, a start that is not idle 7, an idle step 10.
@@ -43,10 +47,10 @@ impl Trial {
         let is_idle = self.book.hand.is_none();
         let key = self.any_key();
         match (which, is_idle) {
-            (0, _) => self.expect_of_find(Refusal::ZeroKey, card, 0),
-            (1, true) => self.expect_of_step(Refusal::Idle, card, state),
-            (_, true) => self.expect_of_starts(Refusal::ZeroKey, card, state, 0),
-            (_, false) => self.expect_of_starts(Refusal::Busy, card, state, key),
+            (0, _) => self.expect_of_find(6, card, 0),
+            (1, true) => self.expect_of_step(10, card, state),
+            (_, true) => self.expect_of_starts(6, card, state, 0),
+            (_, false) => self.expect_of_starts(7, card, state, key),
         }
     }
 
@@ -56,9 +60,9 @@ impl Trial {
         let n = card.len().saturating_sub(1);
         let short = &mut card[..n];
         match which {
-            3 => self.expect_of_find(Refusal::WrongLength, short, key),
-            4 => self.expect_of_starts(Refusal::WrongLength, short, state, key),
-            _ => self.expect_of_step(Refusal::WrongLength, short, state),
+            3 => self.expect_of_find(1, short, key),
+            4 => self.expect_of_starts(1, short, state, key),
+            _ => self.expect_of_step(1, short, state),
         }
     }
 
@@ -74,7 +78,7 @@ impl Trial {
             Ok(Begun::Idle) => self.wrong_if(true),
             Err(refusal) => {
                 count(&mut self.counts.refused);
-                self.wrong_if(refusal != Refusal::NoRoom || !is_split);
+                self.wrong_if(refusal.number() != 8 || !is_split);
             }
         }
     }
@@ -87,15 +91,16 @@ impl Trial {
         }
     }
 
-    // Starts an update of a key, and the book's side of it.
-    fn start_update(&mut self, card: &[u32], state: &mut Block, key: u32, kind: Kind) {
+    // Starts an update of a key, by its number, and the book's side of it.
+    fn start_update(&mut self, card: &[u32], state: &mut Block, number: u32, kind: Kind) {
+        let key = self.list.key(number);
         let hand = Hand {
             kind,
-            key,
+            number,
             taken: 0,
             is_leaf_full: leaf::is_full(card, key),
             is_entered: false,
-            held: self.book.value(key),
+            held: self.book.value(number),
         };
         match kind {
             Kind::Insert(value) => {
@@ -120,7 +125,7 @@ impl Trial {
 
     // Starts an insert or a delete of a key of the range.
     pub fn start(&mut self, card: &[u32], state: &mut Block) {
-        let key = self.any_key();
+        let number = self.any_number();
         let value = self.random.word();
         count(&mut self.counts.calls);
         let kind = if self.random.below(16) < self.inserts_of_sixteen() {
@@ -128,20 +133,15 @@ impl Trial {
         } else {
             Kind::Delete
         };
-        self.start_update(card, state, key, kind);
+        self.start_update(card, state, number, kind);
     }
 
     // A step of the update in hand, and the book's side of it.
-    pub fn step(
-        &mut self,
-        card: &mut [u32],
-        state: &mut Block,
-        hand: Hand,
-    ) -> Result<(), AllocError> {
+    pub fn step(&mut self, card: &mut [u32], state: &mut Block, hand: Hand) {
         count(&mut self.counts.calls);
         count(&mut self.counts.steps);
         let answer = table::step(card, state);
         self.wrong_if(is_wrong(&hand, answer));
-        self.book.step(!matches!(answer, Ok(Answer::Stored(_))))
+        self.book.step(!matches!(answer, Ok(Answer::Stored(_))));
     }
 }
