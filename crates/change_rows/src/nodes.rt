@@ -15,14 +15,16 @@ pub fn write_places(places: &mut [u32], m: usize)
     }
 }
 
-// Eleven words, those of a part and 0 after them: "unused words are 0".
+// Eleven words, those of a part and 0 after them: "unused words are 0". By the index: `copy_from_slice` is a call of memmove here, which
+// no other function needs, and C would have to bring it.
 fn write_row(row: &mut [u32], part: &[u32])
     requires { (length row.old ≡ 11) × (length part.now ≤ 11) }
     ensures { row.new ≡ pad 11 part.now }
 {
-    let used = part.len();
-    row[..used].copy_from_slice(part);
-    row[used..].fill(0);
+    for i in 0..part.len() {
+        row[i] = part[i];
+    }
+    row[part.len()..].fill(0);
 }
 
 // The 24 words of a node: its kind, its keys, what is beside them, and 0.
