@@ -9,6 +9,8 @@ use native.Mathlib.Numerals.{add-one}
 use lib.ListN.{length, length-set, set, get_or, take, drop, drop_of_length-le}
 use lib.Seq.{take-nil, drop-cons, get_or-take, get_or-drop, drop-drop}
 use lib.Dec.{ltb, leb, eqb}
+use Rattle.std.proofs.Math.Nat.{min-le_left, le_trans}
+use Rattle.std.proofs.lemmas.List.{length-take}
 use borrow.Author.Tests.{ltb-false, lt-ltb, le-ltb, eqb-false, ne_eqb, eq-eqb}
 use Rattle.std.specs.Prelude.{Some}
 use Rattle.std.specs.List.{list_any}
@@ -135,22 +137,30 @@ zero_after_drop zero l = refl
 zero_after_drop (suc k) [] = refl
 zero_after_drop (suc k) (x ∷ l) = zero_after_drop k l
 
--- words d + k to d + t of a node, as the words from k on of the t from d on
-part_zero : (node : List ℕ) (d t k : ℕ) → k ≤ t → zero_after k (take t (drop d node)) ≡ all_zero (take (t - k) (drop (d + k) node))
-part_zero node d t k h =
-    let e : k + (t - k) ≡ t = omega arith in
-    zero_after_drop k (take t (drop d node))
-    ∙ ap all_zero (ap (λ (x : ℕ). drop k (take x (drop d node))) (sym e) ∙ sym (take_drop k (t - k) (drop d node)) ∙ ap (take (t - k)) (drop-drop k d node))
+few_taken : (t k : ℕ) (l : List ℕ) → t ≤ k → length (take t l) ≤ k
+few_taken t k l h = subst (λ (n : ℕ). n ≤ k) (sym (length-take t l)) (le_trans (min-le_left t (length l)) h)
 
-module _ (node : List ℕ) (c : ℕ) (some_child : 1 ≤ c) (few : c ≤ 11) where
+-- words d + k to d + t of a node, as the words from k on of the t from d on; none where there are no more than k
+part_zero : (node : List ℕ) (d t k : ℕ) → zero_after k (take t (drop d node)) ≡ all_zero (take (t - k) (drop (d + k) node))
+part_zero node d t k =
+    order k t
+    (λ h. let e : k + (t - k) ≡ t = omega arith in
+    zero_after_drop k (take t (drop d node))
+    ∙ ap all_zero (ap (λ (x : ℕ). drop k (take x (drop d node))) (sym e) ∙ sym (take_drop k (t - k) (drop d node)) ∙ ap (take (t - k)) (drop-drop k d node)))
+    (λ h. let z : t - k ≡ 0 = omega arith in
+    zero_after_drop k (take t (drop d node))
+    ∙ ap all_zero (drop_of_length-le (take t (drop d node)) (few_taken t k (drop d node) h))
+    ∙ sym (ap (λ (x : ℕ). all_zero (take x (drop (d + k) node))) z))
+
+module _ (node : List ℕ) (c : ℕ) (some_child : 1 ≤ c) where
   unused_parts : unused_zero node c ≡ (all_zero (take (12 - c) (drop c node)) && all_zero (take (23 - (12 + c)) (drop (12 + c) node)))
   unfolding unused_zero key_words value_words
   unused_parts =
       let e : 11 - (c - 1) ≡ 12 - c = omega arith in
       let f : 1 + (c - 1) ≡ c = omega arith in
       let g : 11 - c ≡ 23 - (12 + c) = omega arith in
-      ap₂ ◌&&◌ (part_zero node 1 11 (c - 1) (omega arith) ∙ ap₂ (λ (x y : ℕ). all_zero (take x (drop y node))) e f)
-      (part_zero node 12 11 c few ∙ ap (λ (x : ℕ). all_zero (take x (drop (12 + c) node))) g)
+      ap₂ ◌&&◌ (part_zero node 1 11 (c - 1) ∙ ap₂ (λ (x y : ℕ). all_zero (take x (drop y node))) e f)
+      (part_zero node 12 11 c ∙ ap (λ (x : ℕ). all_zero (take x (drop (12 + c) node))) g)
 
   pub unused_keys : all_zero (take (12 - c) (drop c node)) ≡ false → unused_zero node c ≡ false
   unused_keys e = unused_parts ∙ rw e

@@ -6,7 +6,12 @@ use Prim.Native.Nat.{ℕ}
 use lib.ListN.{length}
 use borrow.Author.Tests.{ne_eqb, eq-eqb}
 use Rattle.card.specs.Header.{nodes_of_length}
-use Rattle.state.specs.Begun.{Begun}
+use Rattle.laws.proofs.Cases.{impossible}
+use Rattle.std.specs.Prelude.{Result, Ok, Err}
+use Rattle.card.specs.declared.refusal.Refusal.{Refusal}
+use Rattle.state.specs.declared.Begun.{Begun as Given}
+use Rattle.state.specs.declared.Begun.TheVariants.{Idle as GivenIdle, Started as GivenStarted}
+use Rattle.state.specs.Begun.{Begun, told}
 use Rattle.state.specs.Begun.{Idle, Started, Refused as BegunRefused}
 use Rattle.call_change.specs.Updates.{landing}
 use Rattle.call_open.specs.Opening.{open_of}
@@ -39,6 +44,12 @@ module _ (greatest : ℕ) (card : List ℕ) (key : ℕ) where
       go Idle e = rw e
       go Started e = rw e
       go (BegunRefused r) e = absurd (unrefused r e)
+
+-- what opening answered: an answer that is no error is no refusal
+pub is_unrefused : (a : Result Given Refusal) (b : Given) → a ≡ Ok b → (r : ℕ) → told a ≡ BegunRefused r → ⊥
+is_unrefused (Ok GivenIdle) b o r e = impossible (cc)
+is_unrefused (Ok GivenStarted) b o r e = impossible (cc)
+is_unrefused (Err f) b o r e = impossible (cc)
 
 module _ (greatest : ℕ) (dump : List ℕ) (lent key : ℕ) where
   pub dump_refused : (r : ℕ) → read_answer greatest dump lent ≡ ReadRefused r → reason_in_dump greatest dump lent key ≡ Refused r

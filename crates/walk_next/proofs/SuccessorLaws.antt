@@ -1,6 +1,6 @@
 -- Laws of the next pair: one for each branch of the code.
 use mathlib.Core.Path.{◌≡◌, refl, sym, ◌∙◌, ap, ap₂, subst}
-use mathlib.Core.Bool.{true, false}
+use mathlib.Core.Bool.{Bool, true, false, not}
 use mathlib.Core.List.{List, ◌∷◌, [], ◌++◌}
 use mathlib.Core.Option.{Option as Maybe, none, some}
 use Prim.Native.Nat.{ℕ, zero, suc, ◌+◌, ◌≤◌, ◌<◌}
@@ -169,6 +169,15 @@ module _ (card : List ℕ) (after : ℕ) (w : Way) where
       → next_in_leaf card after (leaf_of w) ≡ found o
   unfolding next_in_leaf
   in_leaf m depth e o q = ap (next_in_leaf card after) e ∙ ap found q
+
+-- the second round, and the first, by a flag that says whether it is the number's own
+pub second_round : (own : Bool) → not own ≡ true → own ≡ false
+second_round true e = impossible (cc)
+second_round false e = refl
+
+pub first_round : (own : Bool) → not own ≡ false → own ≡ true
+first_round true e = refl
+first_round false e = impossible (cc)
 
 -- what a leaf's answer comes to in the round of the number's own leaf, and in the second one
 unfoldable pub in_round : Option ℕ → List ℕ → ℕ → ℕ → Way → Successor → Successor
