@@ -1,4 +1,5 @@
-// The answers of the calls in four words, for C: a number for the answer and, where it has them, a value, a key and a depth.
+// The answers of the calls in four words, for C: a number for the answer and, where it has them, a value, a key and a depth. A refusal is
+// handed on as its number, and any number is taken.
 
 #![tactic(auto)]
 
@@ -6,18 +7,11 @@ ghost use Rattle.std.specs.Prelude.{◌≡◌};
 ghost use Rattle.card.specs.Replies.{plain, valued, next, with_depth};
 ghost use Rattle.call_find.specs.Answers.{found_reply};
 ghost use Rattle.state.specs.Answers.{step_reply, told_depth, start_reply, total_reply};
-ghost use Rattle.card_dump.specs.Answer.{told as told_dump};
 ghost use Rattle.card_dump.specs.Answers.{dump_reply};
 ghost use Rattle.walk_next.specs.Successor.{next_reply};
-ghost use Rattle.card.specs.Refusals.{number};
-ghost use Rattle.call_find.specs.Found.{told as found_told};
-ghost use Rattle.walk_next.specs.Next.{told as next_told};
-ghost use Rattle.state.specs.Answer.{told as answer_told};
-ghost use Rattle.state.specs.Begun.{told as begun_told};
-ghost use Rattle.state.specs.Total.{told as total_told};
+ghost use Rattle.c_replies.specs.Told.{found_told, next_told, answer_told, begun_told, total_told, dump_told};
 ghost use Rattle.c_replies.specs.ReplyWords.{reply_of, kept_depth, ShortDump};
 
-use card::Refusal;
 use state::block::depth_kept;
 use state::{Answer, Begun};
 use walk_next::Pair;
@@ -66,7 +60,7 @@ fn valued(code: u32, value: u32) -> Reply
     }
 }
 
-// An answer that has no value beside it.
+// "A refusal gives its number"; the same for every answer that has no value beside it.
 fn plain(code: u32) -> Reply
     ensures { reply_of result ≡ plain code }
 {
@@ -97,28 +91,21 @@ pub fn with_depth(reply: Reply, depth: u32) -> Reply
     }
 }
 
-// "A refusal gives its number".
-fn refused(refusal: Refusal) -> Reply
-    ensures { reply_of result ≡ plain (number refusal) }
-{
-    plain(refusal.number())
-}
-
 #[tactic(auto, unfolding(call_find::specs::Answers::found_reply))]
-pub fn found_reply(found: Result<Option<u32>, Refusal>) -> Reply
+pub fn found_reply(found: Result<Option<u32>, u32>) -> Reply
     ensures { reply_of result ≡ found_reply (found_told found) }
 {
     match found {
         Ok(Some(value)) => valued(VALUE, value),
         Ok(None) => plain(ABSENT),
-        Err(refusal) => refused(refusal),
+        Err(refusal) => plain(refusal),
     }
 }
 
 // The final answers of an insert or a delete have the depth beside them that the state handed back keeps. It is read for these alone: read
 // before each step it took five instructions of every store.
 #[tactic(auto, unfolding(state::specs::Answers::step_reply, state::specs::Answers::told_depth))]
-pub fn step_reply(answer: Result<Answer, Refusal>, state: &[u32]) -> Reply
+pub fn step_reply(answer: Result<Answer, u32>, state: &[u32]) -> Reply
     ensures { reply_of result ≡ with_depth (told_depth (kept_depth state.now) (answer_told answer)) (step_reply (answer_told answer)) }
 {
     match answer {
@@ -126,52 +113,52 @@ pub fn step_reply(answer: Result<Answer, Refusal>, state: &[u32]) -> Reply
         Ok(Answer::Ready) => plain(READY),
         Ok(Answer::Absent) => with_depth(plain(ABSENT), depth_kept(state)),
         Ok(Answer::Value(value)) => with_depth(valued(VALUE, value), depth_kept(state)),
-        Err(refusal) => refused(refusal),
+        Err(refusal) => plain(refusal),
     }
 }
 
 #[tactic(auto, unfolding(state::specs::Answers::start_reply))]
-pub fn start_reply(begun: Result<Begun, Refusal>) -> Reply
+pub fn start_reply(begun: Result<Begun, u32>) -> Reply
     ensures { reply_of result ≡ start_reply (begun_told begun) }
 {
     match begun {
         Ok(Begun::Idle) => plain(IDLE),
         Ok(Begun::Started) => plain(STARTED),
-        Err(refusal) => refused(refusal),
+        Err(refusal) => plain(refusal),
     }
 }
 
 // "One question answers a family's total".
 #[tactic(auto, unfolding(state::specs::Answers::total_reply))]
-pub fn total_reply(total: Result<u32, Refusal>) -> Reply
+pub fn total_reply(total: Result<u32, u32>) -> Reply
     ensures { reply_of result ≡ total_reply (total_told total) }
 {
     match total {
         Ok(pairs) => valued(TOTAL, pairs),
-        Err(refusal) => refused(refusal),
+        Err(refusal) => plain(refusal),
     }
 }
 
 // "The answer is the result's length in words or bytes".
 #[tactic(auto, unfolding(card_dump::specs::Answers::dump_reply))]
-pub fn dump_reply(answer: Result<usize, Refusal>) -> Reply
-    requires { ShortDump (told_dump answer) }
-    ensures { reply_of result ≡ dump_reply (told_dump answer) }
+pub fn dump_reply(answer: Result<usize, u32>) -> Reply
+    requires { ShortDump (dump_told answer) }
+    ensures { reply_of result ≡ dump_reply (dump_told answer) }
 {
     match answer {
         Ok(length) => valued(LENGTH, length as u32),
-        Err(refusal) => plain(refusal.number()),
+        Err(refusal) => plain(refusal),
     }
 }
 
 // "the pair with the smallest key greater than it, or none"
 #[tactic(auto, unfolding(walk_next::specs::Successor::next_reply))]
-pub fn next_reply(successor: Result<Option<Pair>, Refusal>) -> Reply
+pub fn next_reply(successor: Result<Option<Pair>, u32>) -> Reply
     ensures { reply_of result ≡ next_reply (next_told successor) }
 {
     match successor {
         Ok(Some(pair)) => next(pair.key, pair.value),
         Ok(None) => plain(NONE),
-        Err(refusal) => refused(refusal),
+        Err(refusal) => plain(refusal),
     }
 }

@@ -18,13 +18,21 @@ ghost use Rattle.state.specs.declared.Phase.TheVariants.{NotBegun};
 ghost use Rattle.state.specs.Clauses.{OpenCall, StartCall, TotalCall};
 ghost use Rattle.call_step.specs.Clauses.{StepCall};
 ghost use Rattle.state.specs.Block.{memory_in};
-ghost use Rattle.ration_table.specs.Clauses.{Replies};
+ghost use Rattle.ration_table.specs.Clauses.{Replies, numbered};
 ghost use Rattle.c_replies.specs.ReplyWords.{reply_of};
 
 pub use c_replies::Reply;
 use c_replies::{
     dump_reply, found_reply, next_reply, start_reply, step_reply, total_reply, with_depth,
 };
+use card::Refusal;
+
+// An answer with its refusal as a number: "A refusal gives its number".
+fn numbered<A: Drop>(answer: Result<A, Refusal>) -> Result<A, u32>
+    ensures { result ≡ numbered answer }
+{
+    answer.map_err(Refusal::number)
+}
 
 // "A find is one call on the card alone".
 #[unsafe(no_mangle)]
@@ -33,7 +41,7 @@ pub extern "C" fn ration_find(card: &[u32], key: u32) -> Reply
 {
     match table::find_with_depth(card, key) {
         Ok(lookup) => with_depth(found_reply(Ok(lookup.found)), lookup.depth as u32),
-        Err(refusal) => found_reply(Err(refusal)),
+        Err(refusal) => found_reply(Err(refusal.number())),
     }
 }
 
@@ -44,7 +52,7 @@ pub extern "C" fn ration_next(card: &[u32], after: u32) -> Reply
 {
     match table::next_with_depth(card, after) {
         Ok(next) => with_depth(next_reply(Ok(next.pair)), next.depth as u32),
-        Err(refusal) => next_reply(Err(refusal)),
+        Err(refusal) => next_reply(Err(refusal.number())),
     }
 }
 
@@ -53,7 +61,7 @@ pub extern "C" fn ration_next(card: &[u32], after: u32) -> Reply
 pub extern "C" fn ration_start_format(card: &[u32], state: &mut [u32]) -> Reply
     ensures { Replies start_reply (reply_of result) (λ begun. OpenCall state.old state.new begun (format_of greatest_nodes card.now)) }
 {
-    start_reply(table::start_format(card, state))
+    start_reply(numbered(table::start_format(card, state)))
 }
 
 // "Opening stores nothing".
@@ -61,7 +69,7 @@ pub extern "C" fn ration_start_format(card: &[u32], state: &mut [u32]) -> Reply
 pub extern "C" fn ration_open(card: &[u32], state: &mut [u32]) -> Reply
     ensures { Replies start_reply (reply_of result) (λ begun. OpenCall state.old state.new begun (open_of greatest_nodes card.now)) }
 {
-    start_reply(table::open(card, state))
+    start_reply(numbered(table::open(card, state)))
 }
 
 // "Starting an update stores nothing."
@@ -75,7 +83,7 @@ pub extern "C" fn ration_start_insert(
     ensures { Replies start_reply (reply_of result) (λ begun. StartCall state.old state.new begun
         (Inserting key value NotBegun) (insert_of greatest_nodes 1 card.now (memory_in state.old) key value)) }
 {
-    start_reply(table::start_insert(card, state, key, value))
+    start_reply(numbered(table::start_insert(card, state, key, value)))
 }
 
 // The same for a delete.
@@ -84,7 +92,7 @@ pub extern "C" fn ration_start_delete(card: &[u32], state: &mut [u32], key: u32)
     ensures { Replies start_reply (reply_of result) (λ begun. StartCall state.old state.new begun
         (Deleting key NotBegun 0) (delete_of greatest_nodes 1 card.now (memory_in state.old) key)) }
 {
-    start_reply(table::start_delete(card, state, key))
+    start_reply(numbered(table::start_delete(card, state, key)))
 }
 
 // "Each step then either stores one word or gives the final answer and makes the state idle." The final answer of an insert or a delete
@@ -95,7 +103,7 @@ pub extern "C" fn ration_step(card: &mut [u32], state: &mut [u32]) -> Reply
         (λ answer. StepCall greatest_nodes 1 card.old state.old card.new state.new answer) }
 {
     let answer = table::step(card, state);
-    step_reply(answer, state)
+    step_reply(numbered(answer), state)
 }
 
 // "One question answers a family's total".
@@ -103,7 +111,7 @@ pub extern "C" fn ration_step(card: &mut [u32], state: &mut [u32]) -> Reply
 pub extern "C" fn ration_family_total(state: &[u32], family: u32) -> Reply
     ensures { Replies total_reply (reply_of result) (λ total. TotalCall state.now family total) }
 {
-    total_reply(table::family_total(state, family))
+    total_reply(numbered(table::family_total(state, family)))
 }
 
 // "Reading a dump checks 11, 12".
@@ -113,7 +121,7 @@ pub extern "C" fn ration_read_dump(dump: &[u8], words: &mut [u32]) -> Reply
     ensures words_after { words.new ≡ read_over greatest_nodes dump.now words.old }
 {
     let answer = card_dump::read_dump(dump, words, card::GREATEST_NODES);
-    dump_reply(answer)
+    dump_reply(numbered(answer))
 }
 
 // "writing one checks 1, 2, 3, 12".
@@ -123,5 +131,5 @@ pub extern "C" fn ration_write_dump(card: &[u32], bytes: &mut [u8]) -> Reply
     ensures bytes_after { bytes.new ≡ write_over greatest_nodes card.now bytes.old }
 {
     let answer = card_dump::write_dump(card, bytes, card::GREATEST_NODES);
-    dump_reply(answer)
+    dump_reply(numbered(answer))
 }

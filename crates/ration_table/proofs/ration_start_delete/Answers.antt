@@ -1,6 +1,14 @@
 -- `ration_table::ration_start_delete` meets its contract.
+use Rattle.std.proofs.Common.{ap, ◌∙◌}
+use Rattle.state.specs.Answers.{start_reply}
 use Rattle.state.specs.Begun.{told}
+use Rattle.c_replies.specs.Told.{begun_told}
+use Rattle.ration_table.proofs.NumberLaws.{begun_numbered}
 use Rattle.ration_table.proofs.ration_start_delete.Goals as goal
 
 pub returns : goal.returns
-returns c = (told c.start_delete.result, c.start_reply.ensures, c.start_delete.ensures)
+returns c = (
+  told c.start_delete.result,
+  c.start_reply.ensures ∙ ap start_reply (ap begun_told c.numbered.ensures ∙ begun_numbered c.start_delete.result),
+  c.start_delete.ensures,
+)
