@@ -23,7 +23,8 @@ pub returns : goal.returns
 returns c = (
   told c.step-answer.result,
   c.step_reply.ensures
-      ∙ ap (λ (answer : Answer). with_depth (told_depth (kept_depth c.step-answer.new.state) answer) (step_reply answer)) (ap answer_told c.numbered.ensures ∙ answer_numbered c.step-answer.result)
+      ∙ ap (λ (answer : Answer). with_depth (told_depth (kept_depth c.step-answer.new.state) answer) (step_reply answer))
+      (ap answer_told c.numbered.ensures ∙ answer_numbered c.step-answer.result)
       ∙ same_depth _ (told c.step-answer.result) (λ n. (c.step-answer.ensures.no_state_lem (λ l. n (c.step-answer.auto.state ∙ l))).0),
   c.step-answer.ensures,
 )
